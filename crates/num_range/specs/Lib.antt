@@ -1,0 +1,4 @@
+pub mod Space
+pub mod Number
+pub mod Range
+pub mod Block

@@ -1,0 +1,12 @@
+-- A number as contracts see it.
+use Rattle.std.specs.Prelude.{ℕ, ◌≤◌}
+use Rattle.num_range.specs.declared.space.Space.{Space}
+use Rattle.num_range.specs.Space.{top_of}
+
+pub record PlainNumber : Type 0 where
+  pub space : Space
+  pub value : ℕ
+
+-- the value is one of the space's
+abbrev pub IsNumber : PlainNumber → Type 0
+IsNumber n = n.value ≤ top_of n.space
