@@ -1,0 +1,6 @@
+use Rattle.std.proofs.Common.{arith}
+use Rattle.reg_entry.proofs.Padding.{over_zeros}
+use Rattle.reg_entry.proofs.label.Label.new.Goals as goal
+
+pub invariant_of-result : goal.invariant_of-result
+invariant_of-result c = rw c.copy_from_slice.ensures.after (over_zeros _ (omega arith))

@@ -1,0 +1,52 @@
+ghost use Rattle.std.specs.Prelude.{◌≡◌, ◌≤◌, ◌↔◌, length, IsSome, IfSome};
+
+use std::marker::Model;
+
+/// How many bytes a label has at most.
+pub const LABEL_ROOM: usize = 96;
+
+/// A short list of bytes that is copied as a whole.
+#[derive(Clone, Copy)]
+pub struct Label {
+    // The bytes past the length are 0, so that the list gives the fields back.
+    array: [u8; LABEL_ROOM],
+    len: usize,
+}
+
+impl Model for Label {
+    ghost use Rattle.std.specs.Prelude.{List, ℕ, length, take};
+    ghost use Rattle.reg_entry.specs.Label.{padded, IsPadded};
+
+    ghost Value = { List ℕ };
+
+    ghost view = { λ l. take l.len l.array };
+
+    ghost invariant = { λ l. IsPadded l.array l.len };
+
+    ghost inverse = { λ bytes. record { array = padded bytes; len = length bytes } };
+}
+
+impl Label {
+    /// The label of these bytes, or nothing where there are more than 96.
+    pub fn new(bytes: &[u8]) -> Option<Label>
+        ensures fits { IsSome result ↔ (length bytes.now ≤ 96) }
+        ensures label { IfSome result (λ l. l ≡ bytes.now) }
+    {
+        if bytes.len() > LABEL_ROOM {
+            return None;
+        }
+        let mut array = [0; LABEL_ROOM];
+        array[..bytes.len()].copy_from_slice(bytes);
+        Some(Label {
+            array,
+            len: bytes.len(),
+        })
+    }
+
+    pub fn bytes(&self) -> &[u8]
+        ensures bytes { result.now ≡ self.now }
+        ensures fits { length self.now ≤ 96 }
+    {
+        &self.array[..self.len]
+    }
+}
