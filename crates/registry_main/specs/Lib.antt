@@ -1,0 +1,3 @@
+pub mod Words
+pub mod Ipv4Text
+pub mod Line

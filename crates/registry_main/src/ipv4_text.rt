@@ -1,0 +1,68 @@
+//! IPv4 addresses and blocks, read from text and written.
+ghost use Rattle.std.specs.Prelude.{◌≡◌, ◌≤◌, ◌<◌, IfSome};
+ghost use Rattle.std.specs.Option.{option_map};
+ghost use Rattle.registry_main.specs.Ipv4Text.{small_number, number_up_to, parted_at, address_of, block_at};
+
+use num_range::{Range, Space, block};
+
+/// A number below 1,000 in decimal, without sign or leading zero.
+fn small_number(text: &[u8]) -> Option<u32>
+    ensures number { result ≡ small_number text.now }
+    ensures small { IfSome result (λ n. n < 1000) }
+{
+    match text {
+        [a @ b'0'..=b'9'] => Some((*a - b'0') as u32),
+        [a @ b'1'..=b'9', b @ b'0'..=b'9'] => Some(10 * (*a - b'0') as u32 + (*b - b'0') as u32),
+        [a @ b'1'..=b'9', b @ b'0'..=b'9', c @ b'0'..=b'9'] => {
+            Some(100 * (*a - b'0') as u32 + 10 * (*b - b'0') as u32 + (*c - b'0') as u32)
+        }
+        _ => None,
+    }
+}
+
+/// A number up to `most` in decimal, without sign or leading zero.
+pub fn number_up_to(most: u32, text: &[u8]) -> Option<u32>
+    ensures number { result ≡ number_up_to most text.now }
+    ensures within { IfSome result (λ n. n ≤ most) }
+{
+    let n = small_number(text)?;
+    if n <= most { Some(n) } else { None }
+}
+
+/// What stands before and behind the first such byte.
+fn parted_at(byte: u8, text: &[u8]) -> Option<(&[u8], &[u8])>
+    ensures { option_map (λ parts. (parts.0.now, parts.1.now)) result ≡ parted_at byte text.now }
+{
+    for (i, b) in text.iter().enumerate() {
+        if *b == byte {
+            return Some((&text[..i], &text[i + 1..]));
+        }
+    }
+    None
+}
+
+/// The value of an address.
+#[tactic(auto, unfolding(crate::specs::Ipv4Text::address_of))]
+fn address_of(text: &[u8]) -> Option<u32>
+    ensures { result ≡ address_of text.now }
+{
+    let (first, rest) = parted_at(b'.', text)?;
+    let a = number_up_to(255, first)?;
+    let (second, rest) = parted_at(b'.', rest)?;
+    let b = number_up_to(255, second)?;
+    let (third, fourth) = parted_at(b'.', rest)?;
+    let c = number_up_to(255, third)?;
+    let d = number_up_to(255, fourth)?;
+    Some(((a * 256 + b) * 256 + c) * 256 + d)
+}
+
+/// The range of a block whose address has no bit set past its length.
+#[tactic(auto, unfolding(crate::specs::Ipv4Text::block_at))]
+pub fn block_at(text: &[u8]) -> Option<Range>
+    ensures { result ≡ block_at text.now }
+{
+    let (start, len) = parted_at(b'/', text)?;
+    let start = address_of(start)?;
+    let len = number_up_to(32, len)?;
+    block(Space::Ipv4, start as u128, len)
+}
