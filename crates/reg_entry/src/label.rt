@@ -1,5 +1,11 @@
-ghost use Rattle.std.specs.Prelude.{◌≡◌, ◌≤◌, ◌↔◌, length, IsSome, IfSome};
+ghost use Rattle.std.specs.Prelude.{◌≡◌, ◌≤◌, ◌↔◌, length, Some, IsSome, IfSome};
+ghost use Rattle.std.specs.Str.{bytes_eq};
+ghost use Rattle.std.specs.Ordering.{nat_cmp};
+ghost use Rattle.std.specs.Cmp.{partial_equiv_from_equiv};
+ghost use Rattle.std.specs.Cmp.Lexicographic.{slice_cmp, nat_list_eq_equiv, nat_list_cmp_total, texts_ties, texts_po};
+ghost use Rattle.std.proofs.Common.{rules};
 
+use std::cmp::Ordering;
 use std::marker::Model;
 
 /// How many bytes a label has at most.
@@ -48,5 +54,44 @@ impl Label {
         ensures fits { length self.now ≤ 96 }
     {
         &self.array[..self.len]
+    }
+}
+
+impl PartialEq for Label {
+    ghost eq = { bytes_eq };
+
+    ghost laws = { partial_equiv_from_equiv nat_list_eq_equiv };
+
+    fn eq(&self, other: &Label) -> bool {
+        self.bytes() == other.bytes()
+    }
+}
+
+impl Eq for Label {
+    ghost laws = { nat_list_eq_equiv };
+}
+
+impl PartialOrd for Label {
+    ghost partial_cmp = { λ x y. Some (slice_cmp nat_cmp x y) };
+
+    ghost laws = { texts_po };
+
+    fn partial_cmp(&self, other: &Label) -> Option<Ordering> {
+        Some(self.cmp(other))
+    }
+}
+
+/// Labels are in the order of their bytes.
+impl Ord for Label {
+    ghost cmp = { slice_cmp nat_cmp };
+
+    ghost total = { nat_list_cmp_total };
+
+    ghost matches_partial_cmp = { Prim.search rules };
+
+    ghost matches_eq = { texts_ties };
+
+    fn cmp(&self, other: &Label) -> Ordering {
+        self.bytes().cmp(other.bytes())
     }
 }
