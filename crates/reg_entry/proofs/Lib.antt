@@ -1,2 +1,4 @@
 pub mod Padding
 mod Rows
+pub mod Joining
+pub mod Laying
