@@ -2,3 +2,5 @@ pub mod Padding
 mod Rows
 pub mod Joining
 pub mod Laying
+pub mod Holding
+pub mod LeastBlock
