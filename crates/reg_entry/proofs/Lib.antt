@@ -4,3 +4,4 @@ pub mod Joining
 pub mod Laying
 pub mod Holding
 pub mod LeastBlock
+pub mod Overlaps
