@@ -1,2 +1,7 @@
 pub mod Padding
 mod Rows
+pub mod Joining
+pub mod Laying
+pub mod Holding
+pub mod LeastBlock
+pub mod Overlaps

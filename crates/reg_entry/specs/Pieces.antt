@@ -1,5 +1,5 @@
 -- The numbers of one space as a list of pieces, and how painting a card over a range changes it.
-use Rattle.std.specs.Prelude.{◌≡◌, ℕ, ◌+◌, ◌-◌, ◌^◌, ◌<◌, ◌≤◌, min, max, Bool, true, false, ◌&&◌, ◌==◌, nat_lt, nat_le, if◌then◌else◌, List, [], ◌∷◌, ◌++◌, Option, None, Some, MatchOption, find}
+use Rattle.std.specs.Prelude.{◌≡◌, ℕ, ◌+◌, ◌-◌, ◌^◌, ◌<◌, ◌≤◌, min, max, Bool, true, false, ◌&&◌, ◌==◌, nat_lt, nat_le, if◌then◌else◌, List, [], ◌∷◌, ◌++◌, Option, None, Some, MatchOption, IsSome, find}
 use Rattle.std.specs.List.{flat_map}
 use Rattle.std.specs.Option.{option_map}
 use Rattle.num_range.specs.declared.space.Space.{Space}
@@ -31,6 +31,12 @@ first_met ps r = find (meets r) ps
 -- the least number of the range that some piece has
 abbrev pub overlap : List Piece → PlainRange → Option ℕ
 overlap ps r = option_map (λ p. max r.first p.range.first) (first_met ps r)
+
+-- the least number of the range that some piece holds, or none where no piece holds any
+abbrev pub IsLeastTaken : List Piece → PlainRange → Option ℕ → Type 0
+IsLeastTaken ps r None = (x : ℕ) → r.first ≤ x → x ≤ r.last → piece_at ps x ≡ None
+IsLeastTaken ps r (Some n) =
+    (r.first ≤ n) × (n ≤ r.last) × IsSome (piece_at ps n) × ((x : ℕ) → r.first ≤ x → x < n → piece_at ps x ≡ None)
 
 -- ---- painting
 

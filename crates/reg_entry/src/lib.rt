@@ -4,6 +4,7 @@
 mod card;
 mod handle;
 mod label;
+pub mod laws;
 mod piece;
 mod refusal;
 
