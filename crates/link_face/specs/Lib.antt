@@ -1,0 +1,9 @@
+pub mod Bytes
+pub mod FailingSink
+pub mod FailingSource
+pub mod FaultPlan
+pub mod Faults
+pub mod InSource
+pub mod MemSink
+pub mod MemSource
+pub mod OutSink

@@ -1,0 +1,6 @@
+-- As what contracts see a `MemSource`.
+use Rattle.std.specs.Prelude.{ℕ, List}
+
+pub record MemSourceState : Type 0 where
+  pub taken : List ℕ
+  pub left : List ℕ

@@ -1,0 +1,3 @@
+/// The outside failed a call.
+#[derive(Clone, Copy, Debug, PartialEq, Eq)]
+pub struct Failed;

@@ -1,0 +1,104 @@
+ghost use Rattle.std.specs.Prelude.{◌≡◌, ◌^◌, false};
+ghost use Rattle.std.specs.Io.{ReadsAtMost};
+
+use crate::failed::Failed;
+use crate::source::Source;
+use std::io::{ErrorKind, Read};
+use std::marker::Model;
+
+/// How many bytes an `InSource` reads at most: 2^40.
+pub const BYTE_BUDGET: u64 = 1 << 40;
+
+/// A source over a reader of std. It tells no content. The end is for good: once the reader has
+/// told it, it is not asked again.
+#[derive(Drop)]
+pub struct InSource<R: Read> {
+    reader: R,
+    budget: u64,
+    has_ended: bool,
+    faults: u64,
+}
+
+impl<R: Read> Model for InSource<R> {
+    ghost use Rattle.link_face.specs.InSource.{InSourceState};
+
+    ghost Value = { InSourceState };
+
+    ghost view = { λ s. record { budget = s.budget; has_ended = s.has_ended; faults = s.faults } };
+}
+
+impl<R: Read> InSource<R> {
+    /// A source with the whole budget of `BYTE_BUDGET` bytes.
+    pub fn new(reader: R) -> Self
+        ensures budget { result.budget ≡ 2 ^ 40 }
+        ensures has_ended { result.has_ended ≡ false }
+        ensures faults { result.faults ≡ 0 }
+    {
+        Self::with_budget(reader, BYTE_BUDGET)
+    }
+
+    /// A source that gives at most `budget` bytes.
+    pub fn with_budget(reader: R, budget: u64) -> Self
+        ensures budget { result.budget ≡ budget }
+        ensures has_ended { result.has_ended ≡ false }
+        ensures faults { result.faults ≡ 0 }
+    {
+        Self {
+            reader,
+            budget,
+            has_ended: false,
+            faults: 0,
+        }
+    }
+
+    /// How many reads failed.
+    pub fn faults(&self) -> u64
+        ensures { result ≡ self.now.faults }
+    {
+        self.faults
+    }
+}
+
+// Reads once, and again where a signal interrupted the read.
+fn read_uninterrupted<R: Read>(reader: &mut R, buf: &mut [u8]) -> Result<usize, Failed>
+    ensures { ReadsAtMost result buf.new }
+{
+    for _ in 0..u64::MAX {
+        match reader.read(buf) {
+            Ok(count) => return Ok(count),
+            Err(e) if e.kind() == ErrorKind::Interrupted => {}
+            Err(_) => return Err(Failed),
+        }
+    }
+    Err(Failed)
+}
+
+impl<R: Read> Source for InSource<R> {
+    ghost use Rattle.std.specs.Prelude.{◌≡◌, None, true};
+
+    ghost taken = { λ _. None };
+
+    ghost left = { λ _. None };
+
+    ghost budget = { λ s. s.budget };
+
+    ghost has_ended = { λ s. s.has_ended ≡ true };
+
+    ghost faults = { λ s. s.faults };
+
+    fn read(&mut self, buf: &mut [u8]) -> Result<usize, Failed> {
+        if self.budget > 0 {
+            if self.has_ended {
+                return Ok(0);
+            }
+            let most = buf.len().min(self.budget as usize);
+            if let Ok(count) = read_uninterrupted(&mut self.reader, &mut buf[..most]) {
+                self.budget -= count as u64;
+                self.has_ended = count == 0;
+                return Ok(count);
+            }
+        }
+        self.faults = self.faults.saturating_add(1);
+        Err(Failed)
+    }
+}

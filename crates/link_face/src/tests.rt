@@ -1,0 +1,235 @@
+ghost use Rattle.std.specs.Prelude.{◌≡◌, ◌⊎◌, IfSome, OnOk, OnErr, ◌++◌};
+ghost use Rattle.std.specs.Io.KnownBytes.{Appends, IsAtEnd};
+ghost use Rattle.link_face.specs.Faults.{HasRisen};
+
+use crate::{
+    Clock, Failed, FailingSink, FailingSource, FixedDay, InSource, MemSink, MemSource, OutSink,
+    Sink, Source, SystemDay,
+};
+use std::time::Duration;
+use std::{io, rt};
+
+// The loop that a caller writes: the traits' clauses alone say what it copies, and why it fails.
+fn copy<S: Source, T: Sink>(source: &mut S, sink: &mut T) -> Result<(), Failed>
+    ensures ok { OnOk result (IfSome (S.left source.old)
+        (Appends (T.written sink.old) (T.written sink.new))) }
+    ensures end { OnOk result (IsAtEnd (S.left source.new)) }
+    ensures cause { OnErr result (HasRisen (S.faults source.old) (S.faults source.new)
+        ⊎ HasRisen (T.faults sink.old) (T.faults sink.new)) }
+{
+    let mut buf = [0; 4];
+    loop {
+        match source.read(&mut buf) {
+            Err(failed) => return Err(failed),
+            Ok(0) => return Ok(()),
+            Ok(count) => sink.write(&buf[..count])?,
+        }
+    }
+}
+
+// From memory to memory only memory can fail.
+fn copy_bytes(source: &mut MemSource<'_>, sink: &mut MemSink) -> Result<(), Failed>
+    ensures ok { OnOk result (sink.new.written ≡ sink.old.written ++ source.old.left) }
+    ensures err { OnErr result (HasRisen sink.old.faults sink.new.faults) }
+{
+    copy(source, sink)
+}
+
+const TEXT: &[u8] = b"0123456789";
+
+#[test]
+fn copies_in_any_pieces(rt: HostRuntime) {
+    for piece in [1, 2, 3, 4, 5, 9, 10, 11, usize::MAX] {
+        let mut source = MemSource::in_pieces(TEXT, piece);
+        let mut sink = MemSink::new(rt.alloc());
+        assert_eq!(rt;
+            copy_bytes(&mut source, &mut sink),
+            Ok(()),
+            "in pieces of {piece}"
+        );
+        assert_eq!(rt; sink.bytes(), TEXT, "in pieces of {piece}");
+        assert_eq!(rt; source.left(), b"".as_slice(), "in pieces of {piece}");
+        assert_eq!(rt; sink.faults(), 0);
+    }
+}
+
+#[test]
+fn each_read_fails_in_turn(rt: HostRuntime) {
+    // Four pieces of three bytes or less, and the read that tells the end.
+    let copied = ["", "012", "012345", "012345678", "0123456789"];
+    for call in 0..copied.len() {
+        let calls = [call as u64];
+        let mut source = FailingSource::new(MemSource::in_pieces(TEXT, 3), &calls);
+        let mut sink = MemSink::new(rt.alloc());
+        assert_eq!(rt; copy(&mut source, &mut sink), Err(Failed), "at read {call}");
+        assert_eq!(rt; sink.bytes(), copied[call].as_bytes(), "at read {call}");
+        assert_eq!(rt; (source.faults(), sink.faults()), (1, 0), "at read {call}");
+
+        // The next try goes on where the fault was.
+        assert_eq!(rt; copy(&mut source, &mut sink), Ok(()), "after read {call}");
+        assert_eq!(rt; sink.bytes(), TEXT, "after read {call}");
+        assert_eq!(rt; source.left(), b"".as_slice(), "after read {call}");
+    }
+}
+
+#[test]
+fn each_write_fails_in_turn(rt: HostRuntime) {
+    // Writes of four, four and two bytes.
+    let table = [
+        (0, 0, ""),
+        (0, 3, "012"),
+        (0, 9, "0123"),
+        (1, 0, "0123"),
+        (1, 1, "01234"),
+        (2, 0, "01234567"),
+        (2, 1, "012345678"),
+        (2, 2, "0123456789"),
+    ];
+    for (call, passes, written) in table {
+        let calls = [call];
+        let mut source = MemSource::new(TEXT);
+        let mut sink = FailingSink::new(MemSink::new(rt.alloc()), &calls, passes);
+        let copied = copy(&mut source, &mut sink);
+        assert_eq!(rt; copied, Err(Failed), "at write {call}");
+        assert_eq!(rt;
+            sink.bytes(),
+            written.as_bytes(),
+            "at write {call}, {passes} bytes"
+        );
+        assert_eq!(rt; sink.faults(), 1, "at write {call}");
+    }
+    let mut sink = FailingSink::new(MemSink::new(rt.alloc()), &[3], 0);
+    assert_eq!(rt; copy(&mut MemSource::new(TEXT), &mut sink), Ok(()));
+    assert_eq!(rt; (sink.bytes(), sink.faults()), (TEXT, 0));
+}
+
+// A reader of one byte, behind a signal and before a fault.
+#[derive(Drop)]
+struct Shaken {
+    turn: u8,
+}
+
+impl io::Read for Shaken {
+    fn read(&mut self, buf: &mut [u8]) -> io::Result<usize> {
+        self.turn = self.turn.saturating_add(1);
+        match self.turn {
+            1 => Err(io::Error::from(io::ErrorKind::Interrupted)),
+            2 if !buf.is_empty() => {
+                buf[0] = b'7';
+                Ok(1)
+            }
+            3 => Err(io::Error::from(io::ErrorKind::BrokenPipe)),
+            _ => Ok(0),
+        }
+    }
+}
+
+#[test]
+fn reads_from_a_reader(rt: HostRuntime) {
+    let mut sink = MemSink::new(rt.alloc());
+    let mut whole = InSource::new(TEXT);
+    assert_eq!(rt; copy(&mut whole, &mut sink), Ok(()));
+    assert_eq!(rt; (sink.bytes(), whole.faults()), (TEXT, 0));
+
+    // The budget is one short of what is needed to be told the end.
+    let mut sink = MemSink::new(rt.alloc());
+    let mut short = InSource::with_budget(TEXT, 10);
+    assert_eq!(rt; copy(&mut short, &mut sink), Err(Failed));
+    assert_eq!(rt; (sink.bytes(), short.faults()), (TEXT, 1));
+
+    let mut sink = MemSink::new(rt.alloc());
+    let mut cut = InSource::with_budget(TEXT, 7);
+    assert_eq!(rt; copy(&mut cut, &mut sink), Err(Failed));
+    assert_eq!(rt; (sink.bytes(), cut.faults()), (b"0123456".as_slice(), 1));
+
+    let mut sink = MemSink::new(rt.alloc());
+    let mut shaken = InSource::new(Shaken { turn: 0 });
+    assert_eq!(rt; copy(&mut shaken, &mut sink), Err(Failed));
+    assert_eq!(rt; (sink.bytes(), shaken.faults()), (b"7".as_slice(), 1));
+    assert_eq!(rt; copy(&mut shaken, &mut sink), Ok(()));
+}
+
+// A writer that takes nothing, and one that cannot be flushed.
+#[derive(Drop)]
+struct Full;
+
+impl io::Write for Full {
+    fn write(&mut self, _buf: &[u8]) -> io::Result<usize> {
+        Ok(0)
+    }
+
+    fn flush(&mut self) -> io::Result<()> {
+        Ok(())
+    }
+}
+
+#[derive(Drop)]
+struct Stuck;
+
+impl io::Write for Stuck {
+    fn write(&mut self, buf: &[u8]) -> io::Result<usize> {
+        Ok(buf.len())
+    }
+
+    fn flush(&mut self) -> io::Result<()> {
+        Err(io::Error::from(io::ErrorKind::BrokenPipe))
+    }
+}
+
+#[test]
+fn writes_to_a_writer(rt: HostRuntime) {
+    let mut bytes = Vec::new(rt.alloc());
+    let mut sink = OutSink::new(&mut bytes);
+    assert_eq!(rt; copy(&mut MemSource::new(TEXT), &mut sink), Ok(()));
+    assert_eq!(rt; sink.faults(), 0);
+    assert_eq!(rt; bytes.as_slice(), TEXT);
+
+    let mut full = OutSink::new(Full);
+    assert_eq!(rt; full.write(TEXT), Err(Failed));
+    assert_eq!(rt; full.faults(), 1);
+
+    let mut stuck = OutSink::new(Stuck);
+    assert_eq!(rt; stuck.write(TEXT), Err(Failed));
+    assert_eq!(rt; stuck.faults(), 1);
+}
+
+// A system clock that stands so many seconds after 1970-01-01, or before it.
+#[derive(Drop)]
+struct Stopped(Option<u64>);
+
+impl rt::Clock for Stopped {
+    fn monotonic(&self) -> io::Result<Duration> {
+        Ok(Duration::ZERO)
+    }
+
+    fn since_1970(&self) -> io::Result<Duration> {
+        match self.0 {
+            Some(seconds) => Ok(Duration::from_secs(seconds)),
+            None => Err(io::Error::from(io::ErrorKind::Other)),
+        }
+    }
+}
+
+#[test]
+fn tells_the_day(rt: HostRuntime) {
+    assert_eq!(rt; FixedDay(19_675).day(), 19_675);
+    // 1_700_000_000 seconds are 2023-11-14 at 22:13:20, the day 19675.
+    let table = [
+        (None, 0),
+        (Some(0), 0),
+        (Some(86_399), 0),
+        (Some(86_400), 1),
+        (Some(1_700_000_000), 19_675),
+        (Some(86_400 * 4_294_967_295), u32::MAX),
+        (Some(86_400 * 4_294_967_296), u32::MAX),
+        (Some(u64::MAX), 0),
+    ];
+    for (seconds, day) in table {
+        assert_eq!(rt;
+            SystemDay::new(Stopped(seconds)).day(),
+            day,
+            "at {seconds:?}"
+        );
+    }
+    assert!(rt; SystemDay::new(&rt).day() > 20_000);
+}
