@@ -1,2 +1,3 @@
 pub mod FirstWord
+pub mod Numbering
 pub mod Parted

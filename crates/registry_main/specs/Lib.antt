@@ -1,3 +1,5 @@
 pub mod Words
 pub mod Ipv4Text
 pub mod Line
+pub mod Holders
+pub mod Replies
