@@ -5,3 +5,4 @@ pub mod Laying
 pub mod Holding
 pub mod LeastBlock
 pub mod Overlaps
+pub mod Lookups

@@ -24,6 +24,10 @@ meets r p = nat_le p.range.first r.last && nat_le r.first p.range.last
 abbrev pub piece_at : List Piece → ℕ → Option Piece
 piece_at ps x = find (λ p. holds p x) ps
 
+-- the card of the piece that holds the value
+abbrev pub card_at : List Piece → ℕ → Option Card
+card_at ps x = option_map (λ p. p.card) (piece_at ps x)
+
 -- the first piece that has a number in common with the range
 abbrev pub first_met : List Piece → PlainRange → Option Piece
 first_met ps r = find (meets r) ps

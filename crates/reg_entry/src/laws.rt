@@ -1,10 +1,10 @@
 //! Laws over the definitions that the register stands on, each proved as the contract of a function that does nothing.
-ghost use Rattle.std.specs.Prelude.{◌≡◌, ℕ, ◌<◌, List};
+ghost use Rattle.std.specs.Prelude.{◌≡◌, ℕ, ◌<◌, ◌&&◌, nat_le, if◌then◌else◌, List, Some};
 ghost use Rattle.num_range.specs.declared.space.Space.{Space};
 ghost use Rattle.num_range.specs.Range.{PlainRange, IsRange};
 ghost use Rattle.reg_entry.specs.declared.card.Card.{Card};
 ghost use Rattle.reg_entry.specs.declared.piece.Piece.{Piece};
-ghost use Rattle.reg_entry.specs.Pieces.{overlap, laid, ArePieces, IsPoolRange, IsCard, IsLeastTaken};
+ghost use Rattle.reg_entry.specs.Pieces.{card_at, overlap, laid, ArePieces, IsPoolRange, IsCard, IsLeastTaken};
 ghost use Rattle.reg_entry.specs.Blocks.{least_block, IsLeastBlock};
 
 /// The pieces of a space are pieces of it still once a card was painted over one of its ranges.
@@ -31,6 +31,15 @@ pub fn overlap_is_least()
     ensures {
         (space : Space) (ps : List Piece) (r : PlainRange) → ArePieces space ps → IsRange r
             → IsLeastTaken ps r (overlap ps r)
+    }
+{
+}
+
+/// Painting a card gives it to each number of the range, and leaves the card of every other number as it was.
+pub fn painting_changes_look_ups()
+    ensures {
+        (space : Space) (ps : List Piece) (r : PlainRange) (c : Card) (x : ℕ) → ArePieces space ps → IsRange r → IsCard c
+            → card_at (laid ps r c) x ≡ (if nat_le r.first x && nat_le x r.last then Some c else card_at ps x)
     }
 {
 }
