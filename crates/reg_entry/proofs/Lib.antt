@@ -6,3 +6,4 @@ pub mod Holding
 pub mod LeastBlock
 pub mod Overlaps
 pub mod Lookups
+pub mod Sizes
