@@ -4,6 +4,7 @@
 mod holders;
 mod ipv4_text;
 mod line;
+mod line_buffer;
 mod reply;
 mod words;
 
