@@ -10,8 +10,8 @@ use std::marker::Model;
 /// How many bytes an `InSource` reads at most: 2^40.
 pub const BYTE_BUDGET: u64 = 1 << 40;
 
-/// A source over a reader of std. It tells what is left where the reader does. The end is for good: once the reader has
-/// told it, it is not asked again.
+/// A source over a reader of std. It tells what is left where the reader does. The end is for good:
+/// once the reader has told it, it is not asked again.
 #[derive(Drop)]
 pub struct InSource<R: Read> {
     reader: R,
