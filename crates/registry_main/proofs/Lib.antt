@@ -3,3 +3,4 @@ pub mod FirstWord
 pub mod Numbering
 pub mod Parted
 mod Rows
+pub mod Written

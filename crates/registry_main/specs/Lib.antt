@@ -5,3 +5,4 @@ pub mod Holders
 pub mod Replies
 pub mod Session
 pub mod LineBuffer
+pub mod Batch
