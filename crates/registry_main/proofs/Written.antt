@@ -1,6 +1,6 @@
 -- What is written, followed over the lines of a script, where the bytes are known.
-use Rattle.std.proofs.Common.{◌≡◌, ℕ, List, [], ◌∷◌, ◌++◌, Option, None, Some, take, drop, take-append-drop, refl, sym, ◌∙◌, ap, subst, append_assoc, append-nil, Result, Ok, Err, inl, inr}
-use Rattle.std.specs.Result.{OnErr}
+use Rattle.std.proofs.Common.{◌≡◌, ℕ, ◌+◌, ◌<◌, ◌≤◌, ◌^◌, length, arith, List, [], ◌∷◌, ◌++◌, Option, None, Some, take, drop, take-append-drop, refl, sym, ◌∙◌, ap, subst, append_assoc, append-nil, Result, Ok, Err, inl, inr}
+use Rattle.std.specs.Result.{OnOk, OnErr}
 use Rattle.std.specs.Str.Lines.{strip_carriage_return}
 use Rattle.std.specs.Io.KnownBytes.{append_known, Appends, Keeps, Consumes, IsAtEnd}
 use Rattle.link_face.specs.Bytes.{AppendsPrefix}
@@ -9,7 +9,7 @@ use Rattle.registry_main.specs.Replies.{answer_text}
 use Rattle.registry_main.specs.LineBuffer.{HasNoNewline, IsAnsweredAs}
 use Rattle.registry_main.proofs.FirstLine.{replies_to-line, replies_to-last}
 use Rattle.std.proofs.KnownBytes.{Keeps-trans}
-use Rattle.std.proofs.lemmas.Bool.{cases_Bool, eqb-true}
+use Rattle.std.proofs.lemmas.Bool.{cases_Bool, cases_lt, eqb-true}
 use Rattle.std.specs.Prelude.{◌==◌, MatchOption}
 use Rattle.std.specs.Option.{option_map}
 use Rattle.registry_main.specs.Words.{◌>>=◌, parted_at}
@@ -163,3 +163,101 @@ pub newline_parts : {A : Type 0} (now : A → List ℕ) (text : List ℕ) (resul
     → MatchOption result (HasNoNewline text) (λ parts. HasNoNewline (now parts.0) × (text ≡ now parts.0 ++ 10 ∷ now parts.1))
 newline_parts now text None e = parted_none text (sym e)
 newline_parts now text (Some parts) e = parted_some text (now parts.0) (now parts.1) (sym e)
+
+-- ---- the script
+
+-- what was written is a front of what is to be written
+pub written_begins : (day : ℕ) (w : Option (List ℕ)) (r : Register) (line : List ℕ) (left : Option (List ℕ))
+    → BeginsWith (with_all_replies day w r line left) w
+written_begins day w r line None = tt
+written_begins day None r line (Some left) = tt
+written_begins day (Some xs) r line (Some left) = (replies_to day r (line ++ left), refl)
+
+-- a piece was read and answered
+pub piece_read : (day : ℕ) (w w' : Option (List ℕ)) (r r' : Register) (line line' piece : List ℕ) (left left' : Option (List ℕ))
+    → Consumes left left' piece
+    → ((tail : List ℕ) → Keeps (with_replies day w r (line ++ (piece ++ tail))) (with_replies day w' r' (line' ++ tail)))
+    → Keeps (with_all_replies day w r line left) (with_all_replies day w' r' line' left')
+piece_read day w w' r r' line line' piece None left' c answered = tt
+piece_read day w w' r r' line line' piece (Some xs) None c answered = absurd c
+piece_read day w w' r r' line line' piece (Some xs) (Some ys) c answered =
+    let P : List ℕ → Type 0 = λ zs. Keeps (with_replies day w r (line ++ zs)) (with_replies day w' r' (line' ++ ys)) in
+    subst P (sym c) (answered ys)
+
+-- a piece was read, and its answers broke off
+pub piece_broken : (day : ℕ) (w w' : Option (List ℕ)) (r : Register) (line piece : List ℕ) (left left' : Option (List ℕ))
+    → Consumes left left' piece
+    → ((tail : List ℕ) → BeginsWith (with_replies day w r (line ++ (piece ++ tail))) w')
+    → BeginsWith (with_all_replies day w r line left) w'
+piece_broken day w w' r line piece None left' c broken = tt
+piece_broken day w w' r line piece (Some xs) None c broken = absurd c
+piece_broken day w w' r line piece (Some xs) (Some ys) c broken =
+    let P : List ℕ → Type 0 = λ zs. BeginsWith (with_replies day w r (line ++ zs)) w' in
+    subst P (sym c) (broken ys)
+
+-- nothing is left of the script
+pub script_ended : (day : ℕ) (w : Option (List ℕ)) (r : Register) (line : List ℕ) (left left' : Option (List ℕ))
+    → Consumes left left' [] → IsAtEnd left'
+    → Keeps (with_all_replies day w r line left) (with_replies day w r line)
+script_ended day w r line None left' c e = tt
+script_ended day w r line (Some xs) None c e = absurd c
+script_ended day None r line (Some xs) (Some ys) c e = tt
+script_ended day (Some written) r line (Some xs) (Some ys) c e =
+    ap (λ t. written ++ replies_to day r t) (sym (append-nil line) ∙ ap (λ l. line ++ l) (sym (c ∙ e)))
+
+-- the last line was answered, where there is one
+pub no_last_line : (day : ℕ) (w : Option (List ℕ)) (r : Register) (line : List ℕ) → length line ≡ 0 → Keeps (with_replies day w r line) w
+no_last_line day None r line e = tt
+no_last_line day (Some xs) r [] e = sym (append-nil xs)
+no_last_line day (Some xs) r (b ∷ bs) e = absurd (omega arith)
+
+pub last_answered : (day : ℕ) (w w' : Option (List ℕ)) (r : Register) (line : List ℕ) → HasNoNewline line → 0 < length line
+    → Appends w w' (answer_text (answered day r line).reply) → Keeps (with_replies day w r line) w'
+last_answered day None w' r line h some p = tt
+last_answered day (Some xs) None r line h some p = absurd p
+last_answered day (Some xs) (Some ys) r line h some p = p ∙ ap (λ t. xs ++ t) (sym (replies_to-last day r line h some))
+
+pub last_broken : (day : ℕ) (w w' : Option (List ℕ)) (r : Register) (line : List ℕ) → HasNoNewline line → 0 < length line
+    → AppendsPrefix w w' (answer_text (answered day r line).reply) → BeginsWith (with_replies day w r line) w'
+last_broken day None w' r line h some p = tt
+last_broken day (Some xs) None r line h some p = absurd p
+last_broken day (Some xs) (Some ys) r line h some p =
+    let reply : List ℕ = answer_text (answered day r line).reply in
+    (drop p.0 reply, ap (λ t. xs ++ t) (replies_to-last day r line h some ∙ sym (take-append-drop p.0 reply))
+        ∙ sym (append_assoc xs (take p.0 reply) (drop p.0 reply)) ∙ ap (λ l. l ++ drop p.0 reply) (sym p.1))
+
+pub OnOk_map : {T E : Type 0} (r : Result T E) {P Q : Type 0} → (P → Q) → OnOk r P → OnOk r Q
+OnOk_map (Ok x) f p = f p
+OnOk_map (Err e) f p = tt
+
+pub OnErr_map : {T E : Type 0} (r : Result T E) {P Q : Type 0} → (P → Q) → OnErr r P → OnErr r Q
+OnErr_map (Ok x) f p = tt
+OnErr_map (Err e) f p = f p
+
+-- ---- the count of entries
+
+-- so many entries and kept bytes were made of a script whose bytes are below 2 ^ 64
+pub bytes_spent : (entries held budget count entries' held' budget' : ℕ)
+    → (0 < entries + held → entries + held + budget < 2 ^ 64) → budget < 2 ^ 64 → budget' + count ≡ budget
+    → entries' + held' ≤ entries + held + count → entries' + held' + budget' < 2 ^ 64
+bytes_spent entries held budget count entries' held' budget' before bounded spent made =
+    elim (cases_lt 0 (entries + held)) [
+      inl some ↦ let h = before some in omega arith
+    | inr none ↦ omega arith
+    ]
+
+-- ---- the end of the script, after which the last line is answered
+
+pub script_answered : {T E : Type 0} (result : Result T E) (day : ℕ) (whole w w' : Option (List ℕ)) (r : Register) (line : List ℕ) (left left' : Option (List ℕ))
+    → Keeps whole (with_all_replies day w r line left) → Consumes left left' [] → IsAtEnd left'
+    → OnOk result (Keeps (with_replies day w r line) w') → OnOk result (Keeps whole w')
+script_answered (Ok x) day whole w w' r line left left' kept c e h =
+    Keeps-trans _ _ _ kept (Keeps-trans _ _ _ (script_ended day w r line left left' c e) h)
+script_answered (Err x) day whole w w' r line left left' kept c e h = tt
+
+pub script_broken : {T E : Type 0} (result : Result T E) (day : ℕ) (whole w w' : Option (List ℕ)) (r : Register) (line : List ℕ) (left left' : Option (List ℕ))
+    → Keeps whole (with_all_replies day w r line left) → Consumes left left' [] → IsAtEnd left'
+    → OnErr result (BeginsWith (with_replies day w r line) w') → OnErr result (BeginsWith whole w')
+script_broken (Ok x) day whole w w' r line left left' kept c e h = tt
+script_broken (Err x) day whole w w' r line left left' kept c e h =
+    BeginsWith_kept _ _ _ kept (BeginsWith_kept _ _ _ (script_ended day w r line left left' c e) h)

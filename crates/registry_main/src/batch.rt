@@ -1,20 +1,23 @@
 //! A script, read in pieces and answered line by line.
 ghost use Rattle.std.specs.Prelude.{◌≡◌, ◌≤◌, ◌<◌, ◌+◌, ◌++◌, ◌^◌, ℕ, List, [], length, ◌∷◌, OnOk, OnErr, MatchOption, ◌≢◌};
-ghost use Rattle.std.specs.Io.KnownBytes.{Appends, Keeps};
+ghost use Rattle.std.specs.Io.KnownBytes.{Appends, Keeps, IsAtEnd};
 ghost use Rattle.std.specs.Str.Lines.{strip_carriage_return};
 ghost use Rattle.link_face.specs.Bytes.{AppendsPrefix};
 ghost use Rattle.link_face.specs.Faults.{HasRisen};
 ghost use Rattle.registry_main.specs.Session.{answered};
 ghost use Rattle.registry_main.specs.Replies.{answer_text};
 ghost use Rattle.registry_main.specs.LineBuffer.{HasNoNewline};
-ghost use Rattle.registry_main.specs.Batch.{with_replies, BeginsWith};
+ghost use Rattle.registry_main.specs.Batch.{with_replies, with_all_replies, BeginsWith};
 ghost use Rattle.registry_main.specs.declared.batch.Stop.TheVariants.{Read, Write};
 
 use crate::line_buffer::LineBuffer;
 use crate::session::Session;
 use crate::words::parted_at;
-use link_face::Sink;
+use link_face::{Sink, Source};
 use std::alloc::{AllocError, Global};
+
+/// How many bytes are read at once.
+const PIECE: usize = 8192;
 
 /// Why a script isn't answered to its end.
 #[derive(Clone, Copy, Debug, PartialEq, Eq)]
@@ -112,4 +115,41 @@ fn answer_lines<K: Sink>(alloc: Global, session: &mut Session, day: u32, line: &
     }
     line.extend(rest);
     Ok(())
+}
+
+/// Answers the last line, where it has no line end.
+fn end_script<K: Sink>(alloc: Global, session: &mut Session, day: u32, line: &LineBuffer, out: &mut K) -> Result<(), Stop>
+    requires { session.old.entries + length line.now < 2 ^ 64 }
+    ensures ok { OnOk result (Keeps (with_replies day (K.written out.old) session.old line.now) (K.written out.new)) }
+    ensures err { OnErr result (BeginsWith (with_replies day (K.written out.old) session.old line.now) (K.written out.new)) }
+    ensures faults { K.faults out.old ≤ K.faults out.new }
+    ensures write { result ≡ Err Write → HasRisen (K.faults out.old) (K.faults out.new) }
+    ensures no_read { result ≢ Err Read }
+{
+    let text = line.bytes();
+    if text.is_empty() {
+        return Ok(());
+    }
+    answer_line(alloc, session, day, text, out)
+}
+
+/// Answers a script up to its end. The replies to the lines that have come are written before the next read.
+pub fn answer_script<T: Source, K: Sink>(alloc: Global, session: &mut Session, day: u32, script: &mut T, out: &mut K) -> Result<(), Stop>
+    requires { session.old.entries ≡ 0 }
+    ensures ok { OnOk result (Keeps (with_all_replies day (K.written out.old) session.old [] (T.left script.old)) (K.written out.new)) }
+    ensures end { OnOk result (IsAtEnd (T.left script.new)) }
+    ensures err { OnErr result (BeginsWith (with_all_replies day (K.written out.old) session.old [] (T.left script.old)) (K.written out.new)) }
+    ensures read { result ≡ Err Read → HasRisen (T.faults script.old) (T.faults script.new) }
+    ensures write { result ≡ Err Write → HasRisen (K.faults out.old) (K.faults out.new) }
+{
+    let mut piece = [0; PIECE];
+    let mut line = LineBuffer::new();
+    'pieces: loop {
+        match script.read(&mut piece) {
+            Err(_) => return Err(Stop::Read),
+            Ok(0) => break,
+            Ok(count) => answer_lines(alloc, session, day, &mut line, &piece[..count], out)?,
+        }
+    }
+    end_script(alloc, session, day, &line, out)
 }
