@@ -1,5 +1,6 @@
 ghost use Rattle.std.specs.Prelude.{◌≡◌, ◌^◌, false};
 ghost use Rattle.std.specs.Io.{ReadsAtMost};
+ghost use Rattle.std.specs.Io.KnownBytes.{ReadConsumes};
 
 use crate::failed::Failed;
 use crate::source::Source;
@@ -9,8 +10,8 @@ use std::marker::Model;
 /// How many bytes an `InSource` reads at most: 2^40.
 pub const BYTE_BUDGET: u64 = 1 << 40;
 
-/// A source over a reader of std. It tells no content. The end is for good: once the reader has
-/// told it, it is not asked again.
+/// A source over a reader of std. It tells what is left where the reader does. The end is for good:
+/// once the reader has told it, it is not asked again.
 #[derive(Drop)]
 pub struct InSource<R: Read> {
     reader: R,
@@ -20,16 +21,26 @@ pub struct InSource<R: Read> {
 }
 
 impl<R: Read> Model for InSource<R> {
+    ghost use Rattle.std.specs.Prelude.{◌≡◌, true};
+    ghost use Rattle.std.specs.Io.KnownBytes.{IsAtEnd};
     ghost use Rattle.link_face.specs.InSource.{InSourceState};
 
     ghost Value = { InSourceState };
 
-    ghost view = { λ s. record { budget = s.budget; has_ended = s.has_ended; faults = s.faults } };
+    ghost view = { λ s. record {
+      left = R.remaining s.reader;
+      budget = s.budget;
+      has_ended = s.has_ended;
+      faults = s.faults;
+    } };
+
+    ghost invariant = { λ s. s.has_ended ≡ true → IsAtEnd (R.remaining s.reader) };
 }
 
 impl<R: Read> InSource<R> {
     /// A source with the whole budget of `BYTE_BUDGET` bytes.
     pub fn new(reader: R) -> Self
+        ensures left { result.left ≡ R.remaining reader }
         ensures budget { result.budget ≡ 2 ^ 40 }
         ensures has_ended { result.has_ended ≡ false }
         ensures faults { result.faults ≡ 0 }
@@ -39,6 +50,7 @@ impl<R: Read> InSource<R> {
 
     /// A source that gives at most `budget` bytes.
     pub fn with_budget(reader: R, budget: u64) -> Self
+        ensures left { result.left ≡ R.remaining reader }
         ensures budget { result.budget ≡ budget }
         ensures has_ended { result.has_ended ≡ false }
         ensures faults { result.faults ≡ 0 }
@@ -61,7 +73,8 @@ impl<R: Read> InSource<R> {
 
 // Reads once, and again where a signal interrupted the read.
 fn read_uninterrupted<R: Read>(reader: &mut R, buf: &mut [u8]) -> Result<usize, Failed>
-    ensures { ReadsAtMost result buf.new }
+    ensures count { ReadsAtMost result buf.new }
+    ensures left { ReadConsumes (R.remaining reader.old) (R.remaining reader.new) result buf.new }
 {
     for _ in 0..u64::MAX {
         match reader.read(buf) {
@@ -78,7 +91,7 @@ impl<R: Read> Source for InSource<R> {
 
     ghost taken = { λ _. None };
 
-    ghost left = { λ _. None };
+    ghost left = { λ s. s.left };
 
     ghost budget = { λ s. s.budget };
 

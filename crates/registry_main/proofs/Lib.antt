@@ -1,3 +1,6 @@
+pub mod FirstLine
 pub mod FirstWord
 pub mod Numbering
 pub mod Parted
+mod Rows
+pub mod Written

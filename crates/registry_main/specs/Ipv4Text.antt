@@ -5,11 +5,7 @@ use Rattle.std.specs.Fmt.{decimal}
 use Rattle.num_range.specs.declared.space.Space.TheVariants.{Ipv4}
 use Rattle.num_range.specs.Range.{PlainRange}
 use Rattle.num_range.specs.Block.{block_of}
-
-infixl 10 ◌>>=◌
-abbrev pub ◌>>=◌ : {A B : Type 0} → Option A → (A → Option B) → Option B
-None >>= f = None
-(Some x) >>= f = f x
+use Rattle.registry_main.specs.Words.{◌>>=◌, parted_at}
 
 abbrev pub is_digit : ℕ → Bool
 is_digit b = nat_le 48 b && nat_le b 57
@@ -29,11 +25,6 @@ small_number text = None
 -- a number up to a greatest
 abbrev pub number_up_to : ℕ → List ℕ → Option ℕ
 number_up_to most text = small_number text >>= λ n. if nat_le n most then Some n else None
-
--- what stands before and behind the first such byte
-abbrev pub parted_at : ℕ → List ℕ → Option (List ℕ × List ℕ)
-parted_at byte [] = None
-parted_at byte (b ∷ bs) = if b == byte then Some ([], bs) else (parted_at byte bs >>= λ parts. Some (b ∷ parts.0, parts.1))
 
 -- the value of an address
 unfoldable pub address_of : List ℕ → Option ℕ

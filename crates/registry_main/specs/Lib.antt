@@ -3,3 +3,6 @@ pub mod Ipv4Text
 pub mod Line
 pub mod Holders
 pub mod Replies
+pub mod Session
+pub mod LineBuffer
+pub mod Batch

@@ -1,8 +1,8 @@
 //! IPv4 addresses and blocks, read from text and written.
 ghost use Rattle.std.specs.Prelude.{◌≡◌, ◌≤◌, ◌<◌, IfSome};
-ghost use Rattle.std.specs.Option.{option_map};
-ghost use Rattle.registry_main.specs.Ipv4Text.{small_number, number_up_to, parted_at, address_of, block_at};
+ghost use Rattle.registry_main.specs.Ipv4Text.{small_number, number_up_to, address_of, block_at};
 
+use crate::words::parted_at;
 use num_range::{Range, Space, block};
 
 /// A number below 1,000 in decimal, without sign or leading zero.
@@ -27,18 +27,6 @@ pub fn number_up_to(most: u32, text: &[u8]) -> Option<u32>
 {
     let n = small_number(text)?;
     if n <= most { Some(n) } else { None }
-}
-
-/// What stands before and behind the first such byte.
-fn parted_at(byte: u8, text: &[u8]) -> Option<(&[u8], &[u8])>
-    ensures { option_map (λ parts. (parts.0.now, parts.1.now)) result ≡ parted_at byte text.now }
-{
-    for (i, b) in text.iter().enumerate() {
-        if *b == byte {
-            return Some((&text[..i], &text[i + 1..]));
-        }
-    }
-    None
 }
 
 /// The value of an address.

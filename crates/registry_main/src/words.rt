@@ -1,6 +1,7 @@
-//! The words of a line, taken off its front one by one.
+//! The parts of a text: its words, taken off its front one by one, and what stands round a byte.
 ghost use Rattle.std.specs.Prelude.{◌≡◌, ◌≤◌, ◌∷◌, [], length, MatchOption};
-ghost use Rattle.registry_main.specs.Words.{is_blank, words_of, word_length, StartsWord};
+ghost use Rattle.std.specs.Option.{option_map};
+ghost use Rattle.registry_main.specs.Words.{is_blank, words_of, word_length, StartsWord, parted_at};
 
 fn is_blank(b: u8) -> bool
     ensures { result ≡ is_blank b }
@@ -47,4 +48,16 @@ pub fn next_word(text: &[u8]) -> Option<(&[u8], &[u8])>
         return None;
     }
     Some(text.split_at(word_length(text)))
+}
+
+/// What stands before and behind the first such byte.
+pub fn parted_at(byte: u8, text: &[u8]) -> Option<(&[u8], &[u8])>
+    ensures { option_map (λ parts. (parts.0.now, parts.1.now)) result ≡ parted_at byte text.now }
+{
+    for (i, b) in text.iter().enumerate() {
+        if *b == byte {
+            return Some((&text[..i], &text[i + 1..]));
+        }
+    }
+    None
 }

@@ -1,0 +1,165 @@
+-- What is written, followed over the lines of a script, where the bytes are known.
+use Rattle.std.proofs.Common.{◌≡◌, ℕ, List, [], ◌∷◌, ◌++◌, Option, None, Some, take, drop, take-append-drop, refl, sym, ◌∙◌, ap, subst, append_assoc, append-nil, Result, Ok, Err, inl, inr}
+use Rattle.std.specs.Result.{OnErr}
+use Rattle.std.specs.Str.Lines.{strip_carriage_return}
+use Rattle.std.specs.Io.KnownBytes.{append_known, Appends, Keeps, Consumes, IsAtEnd}
+use Rattle.link_face.specs.Bytes.{AppendsPrefix}
+use Rattle.registry_main.specs.Session.{Register, answered, replies_to}
+use Rattle.registry_main.specs.Replies.{answer_text}
+use Rattle.registry_main.specs.LineBuffer.{HasNoNewline, IsAnsweredAs}
+use Rattle.registry_main.proofs.FirstLine.{replies_to-line, replies_to-last}
+use Rattle.std.proofs.KnownBytes.{Keeps-trans}
+use Rattle.std.proofs.lemmas.Bool.{cases_Bool, eqb-true}
+use Rattle.std.specs.Prelude.{◌==◌, MatchOption}
+use Rattle.std.specs.Option.{option_map}
+use Rattle.registry_main.specs.Words.{◌>>=◌, parted_at}
+use Rattle.registry_main.specs.Batch.{with_replies, with_all_replies, BeginsWith}
+
+-- nothing written is a prefix of anything
+pub AppendsPrefix_none : (a : Option (List ℕ)) (bs : List ℕ) → AppendsPrefix a a bs
+AppendsPrefix_none None bs = tt
+AppendsPrefix_none (Some xs) bs = (0, sym (append-nil xs))
+
+-- a fact holds at an error where it holds
+pub OnErr_always : {T E : Type 0} (r : Result T E) {P : Type 0} → P → OnErr r P
+OnErr_always (Ok x) p = tt
+OnErr_always (Err e) p = p
+
+-- a line whose reply was written is answered
+pub line_answered : (day : ℕ) (a b : Option (List ℕ)) (r r' : Register) (line text : List ℕ)
+    → HasNoNewline line → text ≡ strip_carriage_return line
+    → Appends a b (answer_text (answered day r text).reply) → r' ≡ (answered day r text).register
+    → (tail : List ℕ) → Keeps (with_replies day a r (line ++ 10 ∷ tail)) (with_replies day b r' tail)
+line_answered day None b r r' line text h e p q tail = tt
+line_answered day (Some xs) None r r' line text h e p q tail = absurd p
+line_answered day (Some xs) (Some ys) r r' line text h e p q tail =
+    let reply : List ℕ = answer_text (answered day r text).reply in
+    let more : List ℕ = replies_to day (answered day r text).register tail in
+    let whole : replies_to day r (line ++ 10 ∷ tail) ≡ reply ++ more =
+        replies_to-line day r line tail h ∙ ap (λ t. answer_text (answered day r t).reply ++ replies_to day (answered day r t).register tail) (sym e) in
+    ap (λ s. ys ++ replies_to day s tail) q ∙ ap (λ l. l ++ more) p ∙ append_assoc xs reply more ∙ ap (λ l. xs ++ l) (sym whole)
+
+-- where a part of its reply was written, that is a part of what was to be written
+pub line_broken : (day : ℕ) (a b : Option (List ℕ)) (r : Register) (line text : List ℕ)
+    → HasNoNewline line → text ≡ strip_carriage_return line
+    → AppendsPrefix a b (answer_text (answered day r text).reply)
+    → (tail : List ℕ) → BeginsWith (with_replies day a r (line ++ 10 ∷ tail)) b
+line_broken day None b r line text h e p tail = tt
+line_broken day (Some xs) None r line text h e p tail = absurd p
+line_broken day (Some xs) (Some ys) r line text h e p tail =
+    let reply : List ℕ = answer_text (answered day r text).reply in
+    let more : List ℕ = replies_to day (answered day r text).register tail in
+    let whole : replies_to day r (line ++ 10 ∷ tail) ≡ reply ++ more =
+        replies_to-line day r line tail h ∙ ap (λ t. answer_text (answered day r t).reply ++ replies_to day (answered day r t).register tail) (sym e) in
+    let front : List ℕ = take p.0 reply in
+    let rest : List ℕ = drop p.0 reply ++ more in
+    let parted : reply ++ more ≡ front ++ rest =
+        ap (λ l. l ++ more) (sym (take-append-drop p.0 reply)) ∙ append_assoc front (drop p.0 reply) more in
+    (rest, ap (λ l. xs ++ l) (whole ∙ parted) ∙ sym (append_assoc xs front rest) ∙ ap (λ l. l ++ rest) (sym p.1))
+
+-- ---- a piece of the script
+
+Keeps_same : (a b c : Option (List ℕ)) → Keeps a b → b ≡ c → Keeps a c
+Keeps_same a b c k e = subst (Keeps a) e k
+
+pub BeginsWith_kept : (a b c : Option (List ℕ)) → Keeps a b → BeginsWith b c → BeginsWith a c
+BeginsWith_kept None b c k h = tt
+BeginsWith_kept (Some x) None c k h = absurd k
+BeginsWith_kept (Some x) (Some y) None k h = absurd h
+BeginsWith_kept (Some x) (Some y) (Some z) k h = (h.0, sym k ∙ h.1)
+
+-- the end of a line that is kept, with what stands behind it
+line_held : (day : ℕ) (w : Option (List ℕ)) (r : Register) (line front behind rest held tail : List ℕ)
+    → IsAnsweredAs held (line ++ front) → rest ≡ front ++ 10 ∷ behind
+    → with_replies day w r (line ++ (rest ++ tail)) ≡ with_replies day w r (held ++ 10 ∷ (behind ++ tail))
+line_held day w r line front behind rest held tail same e =
+    let more : List ℕ = 10 ∷ (behind ++ tail) in
+    let regrouped : line ++ (rest ++ tail) ≡ (line ++ front) ++ more =
+        ap (λ t. line ++ (t ++ tail)) e ∙ ap (λ t. line ++ t) (append_assoc front (10 ∷ behind) tail) ∙ sym (append_assoc line front more) in
+    ap (append_known w) (ap (replies_to day r) regrouped ∙ sym (same day r more))
+
+-- after a line the text that is to be written stays the same
+pub piece_goes_on : (day : ℕ) (whole : List ℕ → Option (List ℕ)) (w w' : Option (List ℕ)) (r r' : Register) (line front behind rest held new : List ℕ)
+    → ((tail : List ℕ) → Keeps (whole tail) (with_replies day w r (line ++ (rest ++ tail))))
+    → IsAnsweredAs held (line ++ front) → rest ≡ front ++ 10 ∷ behind
+    → ((tail : List ℕ) → Keeps (with_replies day w r (held ++ 10 ∷ tail)) (with_replies day w' r' tail)) → new ≡ []
+    → (tail : List ℕ) → Keeps (whole tail) (with_replies day w' r' (new ++ (behind ++ tail)))
+piece_goes_on day whole w w' r r' line front behind rest held new before same e answered n tail =
+    Keeps-trans _ _ _ (Keeps_same _ _ _ (before tail) (line_held day w r line front behind rest held tail same e))
+        (Keeps_same _ _ _ (answered (behind ++ tail)) (ap (λ l. with_replies day w' r' (l ++ (behind ++ tail))) (sym n)))
+
+-- where a line breaks off, a front of that text was written
+pub piece_breaks : (day : ℕ) (whole : List ℕ → Option (List ℕ)) (w w' : Option (List ℕ)) (r : Register) (line front behind rest held : List ℕ)
+    → ((tail : List ℕ) → Keeps (whole tail) (with_replies day w r (line ++ (rest ++ tail))))
+    → IsAnsweredAs held (line ++ front) → rest ≡ front ++ 10 ∷ behind
+    → ((tail : List ℕ) → BeginsWith (with_replies day w r (held ++ 10 ∷ tail)) w')
+    → (tail : List ℕ) → BeginsWith (whole tail) w'
+piece_breaks day whole w w' r line front behind rest held before same e broken tail =
+    BeginsWith_kept _ _ _ (Keeps_same _ _ _ (before tail) (line_held day w r line front behind rest held tail same e)) (broken (behind ++ tail))
+
+-- the rest of a piece is kept
+pub piece_held : (day : ℕ) (whole : List ℕ → Option (List ℕ)) (w : Option (List ℕ)) (r : Register) (line rest held : List ℕ)
+    → ((tail : List ℕ) → Keeps (whole tail) (with_replies day w r (line ++ (rest ++ tail))))
+    → IsAnsweredAs held (line ++ rest)
+    → (tail : List ℕ) → Keeps (whole tail) (with_replies day w r (held ++ tail))
+piece_held day whole w r line rest held before same tail =
+    Keeps_same _ _ _ (before tail)
+        (ap (append_known w) (ap (replies_to day r) (sym (append_assoc line rest tail)) ∙ sym (same day r tail)))
+
+-- ---- the first newline of a text
+
+abbrev front_of : Option (List ℕ × List ℕ) → List ℕ
+front_of None = []
+front_of (Some parts) = parts.0
+
+abbrev behind_of : Option (List ℕ × List ℕ) → List ℕ
+behind_of None = []
+behind_of (Some parts) = parts.1
+
+-- the byte goes onto what stands before
+abbrev onto : ℕ → List ℕ × List ℕ → Option (List ℕ × List ℕ)
+onto b parts = Some (b ∷ parts.0, parts.1)
+
+onto_none : (b : ℕ) (o : Option (List ℕ × List ℕ)) → (o >>= onto b) ≡ None → o ≡ None
+onto_none b None e = refl
+onto_none b (Some parts) e = cc
+
+record Onto (b : ℕ) (o : Option (List ℕ × List ℕ)) (front behind : List ℕ) : Type 0 where
+  rest : List ℕ
+  was : o ≡ Some (rest, behind)
+  front_is : front ≡ b ∷ rest
+
+onto_some : (b : ℕ) (o : Option (List ℕ × List ℕ)) (front behind : List ℕ) → (o >>= onto b) ≡ Some (front, behind) → Onto b o front behind
+onto_some b None front behind e = cc
+onto_some b (Some parts) front behind e =
+    record { rest = parts.0; was = let h : parts.1 ≡ behind = ap behind_of e in rw h refl; front_is = sym (ap front_of e) }
+
+pub parted_none : (text : List ℕ) → parted_at 10 text ≡ None → HasNoNewline text
+parted_none [] e = tt
+parted_none (b ∷ bs) e = elim (cases_Bool (b == 10)) [
+    inl here ↦ let h : ◌≡◌ {A = Option (List ℕ × List ℕ)} (Some ([], bs)) None = rw here at e in cc
+  | inr apart ↦ (apart, parted_none bs (onto_none b (parted_at 10 bs) (rw apart at e)))
+  ]
+
+pub parted_some : (text front behind : List ℕ) → parted_at 10 text ≡ Some (front, behind)
+    → HasNoNewline front × (text ≡ front ++ 10 ∷ behind)
+parted_some [] front behind e = cc
+parted_some (b ∷ bs) front behind e = elim (cases_Bool (b == 10)) [
+    inl here ↦
+      let h : ◌≡◌ {A = Option (List ℕ × List ℕ)} (Some ([], bs)) (Some (front, behind)) = rw here at e in
+      let empty : [] ≡ front = ap front_of h in
+      let rest : bs ≡ behind = ap behind_of h in
+      let byte : b ≡ 10 = eqb-true b 10 here in
+      (subst HasNoNewline empty tt, ap (λ n. n ∷ bs) byte ∙ ap (λ l. 10 ∷ l) rest ∙ ap (λ f. f ++ 10 ∷ behind) empty)
+  | inr apart ↦
+      let found = onto_some b (parted_at 10 bs) front behind (rw apart at e) in
+      let more = parted_some bs found.rest behind found.was in
+      (subst HasNoNewline (sym found.front_is) (apart, more.0), ap (λ l. b ∷ l) more.1 ∙ ap (λ f. f ++ 10 ∷ behind) (sym found.front_is))
+  ]
+
+-- the same for parts that are seen by a view
+pub newline_parts : {A : Type 0} (now : A → List ℕ) (text : List ℕ) (result : Option (A × A))
+    → option_map (λ parts. (now parts.0, now parts.1)) result ≡ parted_at 10 text
+    → MatchOption result (HasNoNewline text) (λ parts. HasNoNewline (now parts.0) × (text ≡ now parts.0 ++ 10 ∷ now parts.1))
+newline_parts now text None e = parted_none text (sym e)
+newline_parts now text (Some parts) e = parted_some text (now parts.0) (now parts.1) (sym e)

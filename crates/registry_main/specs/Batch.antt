@@ -1,0 +1,31 @@
+-- What is written while a script is read and answered, where the bytes are known.
+use Rattle.std.specs.Prelude.{◌≡◌, ℕ, List, [], ◌++◌, ⊤, Option, None, Some}
+use Rattle.std.specs.Io.KnownBytes.{append_known, Keeps, IsAtEnd}
+use Rattle.registry_main.specs.declared.exit.Exit.{Exit}
+use Rattle.registry_main.specs.declared.exit.Exit.TheVariants.{Done}
+use Rattle.registry_main.specs.Session.{Register, empty_register, entry_day, replies_to, batch_text}
+
+-- what was written, and then the replies to the lines of a text
+abbrev pub with_replies : ℕ → Option (List ℕ) → Register → List ℕ → Option (List ℕ)
+with_replies day written r text = append_known written (replies_to day r text)
+
+-- the same for a text that goes on with what is left of the script
+abbrev pub with_all_replies : ℕ → Option (List ℕ) → Register → List ℕ → Option (List ℕ) → Option (List ℕ)
+with_all_replies day written r text None = None
+with_all_replies day written r text (Some left) = with_replies day written r (text ++ left)
+
+-- a known text begins with the known bytes
+abbrev pub BeginsWith : Option (List ℕ) → Option (List ℕ) → Type 0
+BeginsWith None written = ⊤
+BeginsWith (Some text) None = ⊥
+BeginsWith (Some text) (Some written) = (rest : List ℕ) × (text ≡ written ++ rest)
+
+-- what was written before a script of a clock's day is answered, and then the text that it is answered
+abbrev pub with_batch_text : ℕ → Option (List ℕ) → Option (List ℕ) → Option (List ℕ)
+with_batch_text day before None = None
+with_batch_text day before (Some script) = append_known before (batch_text day script)
+
+-- A script is answered: Done says that it was read to its end and all was written; after any other end a front of it was.
+pub record IsAnswered (day : ℕ) (before script : Option (List ℕ)) (result : Exit) (after left : Option (List ℕ)) : Type 0 where
+  pub front : BeginsWith (with_batch_text day before script) after
+  pub done : result ≡ Done → Keeps (with_batch_text day before script) after × IsAtEnd left

@@ -1,0 +1,115 @@
+//! A script, read in pieces and answered line by line.
+ghost use Rattle.std.specs.Prelude.{◌≡◌, ◌≤◌, ◌<◌, ◌+◌, ◌++◌, ◌^◌, ℕ, List, [], length, ◌∷◌, OnOk, OnErr, MatchOption, ◌≢◌};
+ghost use Rattle.std.specs.Io.KnownBytes.{Appends, Keeps};
+ghost use Rattle.std.specs.Str.Lines.{strip_carriage_return};
+ghost use Rattle.link_face.specs.Bytes.{AppendsPrefix};
+ghost use Rattle.link_face.specs.Faults.{HasRisen};
+ghost use Rattle.registry_main.specs.Session.{answered};
+ghost use Rattle.registry_main.specs.Replies.{answer_text};
+ghost use Rattle.registry_main.specs.LineBuffer.{HasNoNewline};
+ghost use Rattle.registry_main.specs.Batch.{with_replies, BeginsWith};
+ghost use Rattle.registry_main.specs.declared.batch.Stop.TheVariants.{Read, Write};
+
+use crate::line_buffer::LineBuffer;
+use crate::session::Session;
+use crate::words::parted_at;
+use link_face::Sink;
+use std::alloc::{AllocError, Global};
+
+/// Why a script isn't answered to its end.
+#[derive(Clone, Copy, Debug, PartialEq, Eq)]
+pub enum Stop {
+    Read,
+    Write,
+    Memory,
+}
+
+impl From<AllocError> for Stop {
+    ghost use Rattle.std.specs.Prelude.{◌≡◌};
+    ghost use Rattle.registry_main.specs.declared.batch.Stop.TheVariants.{Memory};
+
+    ghost from_gives = { λ _ stop. stop ≡ Memory };
+
+    fn from(_: AllocError) -> Self {
+        Stop::Memory
+    }
+}
+
+/// The line without the one carriage return at its end.
+fn without_return(line: &[u8]) -> &[u8]
+    ensures { result.now ≡ strip_carriage_return line.now }
+{
+    match line {
+        [front @ .., b'\r'] => front,
+        _ => line,
+    }
+}
+
+/// Answers one line, which is handed in without its line end.
+fn answer_line<K: Sink>(alloc: Global, session: &mut Session, day: u32, line: &[u8], out: &mut K) -> Result<(), Stop>
+    requires { session.old.entries + 1 < 2 ^ 64 }
+    ensures ok { OnOk result (Appends (K.written out.old) (K.written out.new) (answer_text (answered day session.old line.now).reply)) }
+    ensures register { OnOk result (session.new ≡ (answered day session.old line.now).register) }
+    ensures entries { session.new.entries ≤ session.old.entries + 1 }
+    ensures err { OnErr result (AppendsPrefix (K.written out.old) (K.written out.new) (answer_text (answered day session.old line.now).reply)) }
+    ensures faults { K.faults out.old ≤ K.faults out.new }
+    ensures write { result ≡ Err Write → HasRisen (K.faults out.old) (K.faults out.new) }
+    ensures no_read { result ≢ Err Read }
+{
+    let Some(reply) = session.answer(day, line)? else {
+        return Ok(());
+    };
+    let text = format!(in alloc; "{reply}")?;
+    match out.write(text.as_bytes()) {
+        Ok(()) => Ok(()),
+        Err(_) => Err(Stop::Write),
+    }
+}
+
+/// Answers the line that is kept, whose end has come, and begins the next.
+fn end_line<K: Sink>(alloc: Global, session: &mut Session, day: u32, line: &mut LineBuffer, out: &mut K) -> Result<(), Stop>
+    requires { session.old.entries + 1 < 2 ^ 64 }
+    ensures ok { OnOk result ((tail : List ℕ) →
+        Keeps (with_replies day (K.written out.old) session.old (line.old ++ 10 ∷ tail)) (with_replies day (K.written out.new) session.new tail)) }
+    ensures empty { OnOk result (line.new ≡ []) }
+    ensures entries { session.new.entries ≤ session.old.entries + 1 }
+    ensures err { OnErr result ((tail : List ℕ) →
+        BeginsWith (with_replies day (K.written out.old) session.old (line.old ++ 10 ∷ tail)) (K.written out.new)) }
+    ensures faults { K.faults out.old ≤ K.faults out.new }
+    ensures write { result ≡ Err Write → HasRisen (K.faults out.old) (K.faults out.new) }
+    ensures no_read { result ≢ Err Read }
+{
+    answer_line(alloc, session, day, without_return(line.bytes()), out)?;
+    line.clear();
+    Ok(())
+}
+
+/// What stands before and behind the first newline.
+fn part_at_newline(text: &[u8]) -> Option<(&[u8], &[u8])>
+    ensures { MatchOption result (HasNoNewline text.now)
+        (λ parts. HasNoNewline parts.0.now × (text.now ≡ parts.0.now ++ 10 ∷ parts.1.now)) }
+{
+    parted_at(b'\n', text)
+}
+
+/// Answers each line that ends in a piece of the script, and keeps what comes behind the last line end.
+fn answer_lines<K: Sink>(alloc: Global, session: &mut Session, day: u32, line: &mut LineBuffer, piece: &[u8], out: &mut K) -> Result<(), Stop>
+    requires { session.old.entries + length line.old + length piece.now < 2 ^ 64 }
+    ensures ok { OnOk result ((tail : List ℕ) →
+        Keeps (with_replies day (K.written out.old) session.old (line.old ++ (piece.now ++ tail))) (with_replies day (K.written out.new) session.new (line.new ++ tail))) }
+    ensures entries { OnOk result (session.new.entries + length line.new ≤ session.old.entries + length line.old + length piece.now) }
+    ensures err { OnErr result ((tail : List ℕ) →
+        BeginsWith (with_replies day (K.written out.old) session.old (line.old ++ (piece.now ++ tail))) (K.written out.new)) }
+    ensures faults { K.faults out.old ≤ K.faults out.new }
+    ensures write { result ≡ Err Write → HasRisen (K.faults out.old) (K.faults out.new) }
+    ensures no_read { result ≢ Err Read }
+{
+    let mut rest = piece;
+    'lines: while let Some((front, behind)) = part_at_newline(rest) {
+        line.extend(front);
+        end_line(alloc, session, day, line, out)?;
+        rest = behind;
+    }
+    line.extend(rest);
+    Ok(())
+}
