@@ -1,0 +1,150 @@
+ghost use Rattle.std.specs.Prelude.{◌≡◌, ◌+◌, ◌^◌, ◌≤◌, List, length, IfOk};
+ghost use Rattle.std.specs.Option.{option_map};
+ghost use Rattle.reg_entry.specs.declared.card.Card.{Card};
+ghost use Rattle.reg_entry.specs.declared.piece.Piece.{Piece};
+ghost use Rattle.reg_entry.specs.Pieces.{ArePieces, IsCard, IsInOnePieceOrNone, IsPoolRange, piece_at, first_met, overlap, laid};
+ghost use Rattle.reg_entry.specs.Partition.{empty_partition, pieces_in, with_pieces, piece_count, IsPartition};
+
+use crate::PieceWalk;
+use crate::laying::{count_after, lay};
+use crate::search::first_between;
+use num_range::{Number, Range, Space};
+use reg_entry::laws::painting_keeps_pieces;
+use reg_entry::{Card, Piece, Status};
+use std::alloc::{AllocError, Global};
+use std::marker::Model;
+
+/// The pieces of the three spaces. Making one takes memory, and nothing after that does.
+#[derive(Drop)]
+pub struct PieceBook {
+    asn: Vec<Piece>,
+    ipv4: Vec<Piece>,
+    ipv6: Vec<Piece>,
+    room: u32,
+}
+
+impl Model for PieceBook {
+    ghost use Rattle.std.specs.Prelude.{vec_capacity};
+    ghost use Rattle.piece_book.specs.Book.{PlainBook};
+    ghost use Rattle.piece_book.specs.Room.{IsReserved};
+
+    ghost Value = { PlainBook };
+
+    ghost view = { λ b. record { partition = record { asn = b.asn.items; ipv4 = b.ipv4.items; ipv6 = b.ipv6.items }; room = b.room } };
+
+    ghost invariant = { λ b. IsReserved (record { partition = record { asn = b.asn.items; ipv4 = b.ipv4.items; ipv6 = b.ipv6.items }; room = b.room }) (vec_capacity b.asn) (vec_capacity b.ipv4) (vec_capacity b.ipv6) };
+}
+
+impl PieceBook {
+    /// A book without pieces, for as many as the room says in all.
+    pub fn with_room(alloc: Global, room: u32) -> Result<PieceBook, AllocError>
+        requires least { 1 ≤ room }
+        requires most { room ≤ 2 ^ 30 }
+        ensures { IfOk result (λ book. book ≡ record { partition = empty_partition; room = room }) }
+    {
+        Ok(PieceBook {
+            asn: Vec::with_capacity(alloc, room as usize)?,
+            ipv4: Vec::with_capacity(alloc, room as usize)?,
+            ipv6: Vec::with_capacity(alloc, room as usize)?,
+            room,
+        })
+    }
+
+    fn in_space(&self, space: Space) -> &[Piece]
+        ensures pieces { result.now ≡ pieces_in self.now.partition space }
+        ensures valid { ArePieces space result.now }
+    {
+        match space {
+            Space::Asn => &self.asn,
+            Space::Ipv4 => &self.ipv4,
+            Space::Ipv6 => &self.ipv6,
+        }
+    }
+
+    /// How many pieces there are in the other spaces.
+    fn elsewhere(&self, space: Space) -> usize
+        ensures count { (ps : List Piece) → piece_count (with_pieces self.now.partition space ps) ≡ result + length ps }
+        ensures bound { result + length (pieces_in self.now.partition space) ≤ 2 ^ 30 }
+    {
+        match space {
+            Space::Asn => self.ipv4.len() + self.ipv6.len(),
+            Space::Ipv4 => self.asn.len() + self.ipv6.len(),
+            Space::Ipv6 => self.asn.len() + self.ipv4.len(),
+        }
+    }
+
+    /// How many pieces there are in all.
+    pub fn pieces(&self) -> u32
+        ensures count { result ≡ piece_count self.now.partition }
+        ensures within { piece_count self.now.partition ≤ self.now.room }
+        ensures valid { IsPartition self.now.partition }
+    {
+        (self.asn.len() + self.ipv4.len() + self.ipv6.len()) as u32
+    }
+
+    /// How many pieces there may be in all.
+    pub fn room(&self) -> u32
+        ensures room { result ≡ self.now.room }
+        ensures within { piece_count self.now.partition ≤ self.now.room }
+    {
+        self.room
+    }
+
+    /// The piece that holds the number, or nothing where the number isn't in the pool.
+    pub fn piece_at(&self, n: Number) -> Option<Piece>
+        ensures { result ≡ piece_at (pieces_in self.now.partition n.space) n.value }
+    {
+        first_between(self.in_space(n.space()), n.value(), n.value())
+    }
+
+    /// The first piece that has a number in common with the range.
+    pub fn first_met(&self, range: &Range) -> Option<Piece>
+        ensures { result ≡ first_met (pieces_in self.now.partition range.now.space) range.now }
+    {
+        first_between(self.in_space(range.space()), range.first(), range.last())
+    }
+
+    /// The least number of the range that the pool has.
+    pub fn overlap(&self, range: &Range) -> Option<Number>
+        ensures { result ≡ option_map (λ v. record { space = range.now.space; value = v })
+            (overlap (pieces_in self.now.partition range.now.space) range.now) }
+    {
+        let (first, last) = (range.first(), range.last());
+        let piece = first_between(self.in_space(range.space()), first, last)?;
+        Some(Number::of(range.space(), first.max(piece.range.first())))
+    }
+
+    /// How many pieces there would be in all once a card of the status was laid over the range.
+    pub fn pieces_after(&self, range: &Range, status: Status) -> u32
+        ensures { (c : Card) → c.status ≡ status
+            → result ≡ piece_count (with_pieces self.now.partition range.now.space (laid (pieces_in self.now.partition range.now.space) range.now c)) }
+    {
+        let count = count_after(self.in_space(range.space()), range, status);
+        (self.elsewhere(range.space()) + count) as u32
+    }
+
+    /// Paints the card over the range, and joins the available pieces that touch then.
+    pub fn lay(&mut self, range: &Range, card: &Card)
+        requires one { IsInOnePieceOrNone (pieces_in self.old.partition range.now.space) range.now }
+        requires pooled { IsPoolRange range.now }
+        requires plain { IsCard card.now }
+        requires room { piece_count (with_pieces self.old.partition range.now.space (laid (pieces_in self.old.partition range.now.space) range.now card.now)) ≤ self.old.room }
+        ensures pieces { self.new.partition ≡ with_pieces self.old.partition range.now.space (laid (pieces_in self.old.partition range.now.space) range.now card.now) }
+        ensures room { self.new.room ≡ self.old.room }
+    {
+        painting_keeps_pieces();
+        match range.space() {
+            Space::Asn => lay(&mut self.asn, range, card),
+            Space::Ipv4 => lay(&mut self.ipv4, range, card),
+            Space::Ipv6 => lay(&mut self.ipv6, range, card),
+        }
+    }
+
+    /// The pieces of a space, rising.
+    pub fn walk(&self, space: Space) -> PieceWalk<'_>
+        ensures pieces { result ≡ pieces_in self.now.partition space }
+        ensures valid { ArePieces space result }
+    {
+        PieceWalk::over(self.in_space(space))
+    }
+}
