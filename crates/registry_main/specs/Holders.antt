@@ -12,10 +12,11 @@ number_among (first ∷ handles) handle = if bytes_eq first handle then Some 0 e
 abbrev pub holder_number : List (List ℕ) → List ℕ → ℕ
 holder_number handles handle = unwrap_or (number_among handles handle) (length handles)
 
+-- the handles with one that has this number, or none yet
+abbrev pub with_handle_numbered : List (List ℕ) → List ℕ → Option ℕ → List (List ℕ)
+with_handle_numbered handles handle None = handles ++ handle ∷ []
+with_handle_numbered handles handle (Some number) = handles
+
 -- the handles with this one, at the end where it is new
 abbrev pub with_handle : List (List ℕ) → List ℕ → List (List ℕ)
-with_handle handles handle = added (number_among handles handle)
-  where
-    added : Option ℕ → List (List ℕ)
-    added None = handles ++ handle ∷ []
-    added (Some number) = handles
+with_handle handles handle = with_handle_numbered handles handle (number_among handles handle)

@@ -1,6 +1,7 @@
 -- What a line of the script asks for.
-use Rattle.std.specs.Prelude.{◌≡◌, ℕ, Bool, true, false, ◌&&◌, ◌==◌, nat_lt, nat_le, if◌then◌else◌, List, [], ◌∷◌, Option, None, Some, length, codes}
+use Rattle.std.specs.Prelude.{◌≡◌, ◌≤◌, ℕ, Bool, true, false, ◌&&◌, ◌==◌, nat_lt, nat_le, if◌then◌else◌, List, [], ◌∷◌, Option, None, Some, length, codes}
 use Rattle.std.specs.Str.{bytes_eq}
+use Rattle.num_range.specs.declared.space.Space.TheVariants.{Ipv4}
 use Rattle.num_range.specs.Range.{PlainRange}
 use Rattle.reg_entry.specs.Handle.{is_handle}
 use Rattle.registry_main.specs.declared.line.Line.{Line}
@@ -47,3 +48,10 @@ line_of_words (verb ∷ words) =
 -- a line, of which 1,024 bytes are read
 abbrev pub line_of : List ℕ → Line
 line_of text = if nat_lt 1024 (length text) then Malformed else line_of_words (words_of text)
+
+-- the line speaks of IPv4 alone
+abbrev pub IsOfIpv4 : Line → Type 0
+IsOfIpv4 Nothing = Unit {0}
+IsOfIpv4 Malformed = Unit {0}
+IsOfIpv4 (Receive range) = range.space ≡ Ipv4
+IsOfIpv4 (Delegate len handle) = len ≤ 32

@@ -41,12 +41,16 @@ room = 262144
 abbrev pub refused : Register → Refusal → Step
 refused r refusal = record { register = r; reply = Some (Refused refusal) }
 
+-- the refusal of so many pieces
+abbrev pub full : ℕ → Refusal
+full pieces = refusals.RegisterFull pieces room
+
 -- the next entry, which paints a card over a range, unless there were too many pieces then
 abbrev pub painted : Register → List (List ℕ) → PlainRange → Card → Step
 painted r handles range card =
     let pieces = laid r.pieces range card in
     if nat_lt room (length pieces)
-    then refused r (refusals.RegisterFull (length pieces) room)
+    then refused r (full (length pieces))
     else record { register = record { pieces = pieces; handles = handles; entries = r.entries + 1 }; reply = Some (Accepted (r.entries + 1) range) }
 
 -- a block comes into the pool, which has none of its numbers yet

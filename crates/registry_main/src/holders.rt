@@ -1,6 +1,6 @@
 //! Holders, by their numbers and by their handles.
-ghost use Rattle.std.specs.Prelude.{◌≡◌, ◌∷◌, ◌++◌, [], None, length, IfOk, OnErr};
-ghost use Rattle.registry_main.specs.Holders.{number_among};
+ghost use Rattle.std.specs.Prelude.{◌≡◌, ◌∷◌, ◌++◌, [], None, length, IfOk, OnOk, OnErr};
+ghost use Rattle.registry_main.specs.Holders.{number_among, holder_number, with_handle};
 
 use reg_entry::Handle;
 use std::alloc::{AllocError, Global};
@@ -40,14 +40,14 @@ impl Holders {
     }
 
     /// The number of the holder with this handle.
-    pub fn number_of(&self, handle: &Handle) -> Option<u32>
+    fn number_of(&self, handle: &Handle) -> Option<u32>
         ensures { result ≡ number_among self.now handle.now }
     {
         self.numbers.get(handle).copied()
     }
 
     /// Adds a holder under a handle that none has, and gives its number. After an error all is as before.
-    pub fn add(&mut self, handle: &Handle) -> Result<u32, AllocError>
+    fn add(&mut self, handle: &Handle) -> Result<u32, AllocError>
         requires { number_among self.old handle.now ≡ None }
         ensures number { IfOk result (λ number. number ≡ length self.old) }
         ensures added { IfOk result (λ _. self.new ≡ self.old ++ handle.now ∷ []) }
@@ -60,5 +60,17 @@ impl Holders {
         self.numbers.insert(*handle, number)?;
         self.handles.push_reserved(*handle);
         Ok(number)
+    }
+
+    /// The number of the holder with this handle, who is added where there is none. After an error all is as before.
+    pub fn number_or_add(&mut self, handle: &Handle) -> Result<u32, AllocError>
+        ensures number { IfOk result (λ number. number ≡ holder_number self.old handle.now) }
+        ensures handles { OnOk result (self.new ≡ with_handle self.old handle.now) }
+        ensures err { OnErr result (self.new ≡ self.old) }
+    {
+        match self.number_of(handle) {
+            Some(number) => Ok(number),
+            None => self.add(handle),
+        }
     }
 }

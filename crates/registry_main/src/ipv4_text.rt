@@ -1,5 +1,6 @@
 //! IPv4 addresses and blocks, read from text and written.
 ghost use Rattle.std.specs.Prelude.{◌≡◌, ◌≤◌, ◌<◌, IfSome};
+ghost use Rattle.num_range.specs.declared.space.Space.TheVariants.{Ipv4};
 ghost use Rattle.registry_main.specs.Ipv4Text.{small_number, number_up_to, address_of, block_at};
 
 use crate::words::parted_at;
@@ -47,7 +48,8 @@ fn address_of(text: &[u8]) -> Option<u32>
 /// The range of a block whose address has no bit set past its length.
 #[tactic(auto, unfolding(crate::specs::Ipv4Text::block_at))]
 pub fn block_at(text: &[u8]) -> Option<Range>
-    ensures { result ≡ block_at text.now }
+    ensures block { result ≡ block_at text.now }
+    ensures space { IfSome result (λ range. range.space ≡ Ipv4) }
 {
     let (start, len) = parted_at(b'/', text)?;
     let start = address_of(start)?;

@@ -1,8 +1,8 @@
 //! What a line of the script asks for.
-ghost use Rattle.std.specs.Prelude.{◌≡◌, ◌∷◌, [], MatchOption};
+ghost use Rattle.std.specs.Prelude.{◌≡◌, ◌≤◌, ◌∷◌, [], IfSome, MatchOption};
 ghost use Rattle.registry_main.specs.declared.line.Line.TheVariants.{Malformed};
 ghost use Rattle.registry_main.specs.Words.{words_of};
-ghost use Rattle.registry_main.specs.Line.{receive_line, delegate_line, amount_of, is_comment, line_of};
+ghost use Rattle.registry_main.specs.Line.{receive_line, delegate_line, amount_of, is_comment, line_of, IsOfIpv4};
 
 use crate::ipv4_text::{block_at, number_up_to};
 use crate::words::next_word;
@@ -26,7 +26,8 @@ pub enum Line {
 
 /// What stands behind `receive`.
 fn receive_line(text: &[u8]) -> Line
-    ensures { result ≡ receive_line (words_of text.now) }
+    ensures line { result ≡ receive_line (words_of text.now) }
+    ensures ipv4 { IsOfIpv4 result }
 {
     let Some((block, rest)) = next_word(text) else {
         return Line::Malformed;
@@ -42,7 +43,8 @@ fn receive_line(text: &[u8]) -> Line
 
 /// `/` and a prefix length.
 fn amount_of(word: &[u8]) -> Option<u32>
-    ensures { result ≡ amount_of word.now }
+    ensures amount { result ≡ amount_of word.now }
+    ensures within { IfSome result (λ len. len ≤ 32) }
 {
     match word {
         [b'/', len @ ..] => number_up_to(32, len),
@@ -67,7 +69,8 @@ fn four_words(text: &[u8]) -> Option<(&[u8], &[u8], &[u8], &[u8])>
 
 /// What stands behind `delegate`.
 fn delegate_line(text: &[u8]) -> Line
-    ensures { result ≡ delegate_line (words_of text.now) }
+    ensures line { result ≡ delegate_line (words_of text.now) }
+    ensures ipv4 { IsOfIpv4 result }
 {
     let Some((space, amount, status, handle)) = four_words(text) else {
         return Line::Malformed;
@@ -89,7 +92,8 @@ fn is_comment(verb: &[u8]) -> bool
 
 /// What a line asks for, which is handed in without its line end.
 pub fn read_line(text: &[u8]) -> Line
-    ensures { result ≡ line_of text.now }
+    ensures line { result ≡ line_of text.now }
+    ensures ipv4 { IsOfIpv4 result }
 {
     if text.len() > LINE_ROOM {
         return Line::Malformed;

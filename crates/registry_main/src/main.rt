@@ -5,6 +5,7 @@ mod batch;
 mod exit;
 mod holders;
 mod ipv4_text;
+mod least_block;
 mod line;
 mod line_buffer;
 mod reply;

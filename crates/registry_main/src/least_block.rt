@@ -1,0 +1,53 @@
+//! The search for the block that a delegation takes.
+ghost use Rattle.std.specs.Prelude.{◌≡◌, ◌≤◌, ◌<◌, ◌+◌, ◌^◌, ◌%◌, None, Some, true, false, MatchOption};
+ghost use Rattle.num_range.specs.declared.space.Space.TheVariants.{Ipv4};
+ghost use Rattle.reg_entry.specs.Blocks.{rounded_up, least_block};
+ghost use Rattle.registry_main.specs.Fitting.{has_room};
+
+use piece_book::PieceWalk;
+use reg_entry::Piece;
+
+/// How far the first multiple of the size that is no less than `n` lies above it.
+#[tactic(auto, using(crate::proofs::Rounding::gap_none, crate::proofs::Rounding::gap_some))]
+fn gap(n: u128, size: u128) -> u128
+    requires { 0 < size }
+    ensures gap { n + result ≡ rounded_up n size }
+    ensures below { result < size }
+{
+    let past = n % size;
+    if past == 0 { 0 } else { size - past }
+}
+
+/// The first aligned start in an available piece that has room for the block behind it.
+fn start_within(piece: &Piece, size: u128) -> Option<u128>
+    requires least { 0 < size }
+    requires most { size ≤ 2 ^ 32 }
+    ensures { MatchOption result (has_room piece.now size ≡ false) (λ start. (has_room piece.now size ≡ true) × (start ≡ rounded_up piece.now.range.first size)) }
+{
+    let first = piece.range.first();
+    let behind = piece.range.last() - first;
+    if !piece.card.status.is_available() || behind < size - 1 {
+        return None;
+    }
+    let gap = gap(first, size);
+    if behind < gap + (size - 1) {
+        return None;
+    }
+    Some(first + gap)
+}
+
+/// The start of the least aligned block of a size, all of whose numbers are available. The search goes over the pieces
+/// once, up to the one in which the block lies.
+pub fn least_block(pieces: PieceWalk<'_>, size: u128) -> Option<u128>
+    requires least { 0 < size }
+    requires most { size ≤ 2 ^ 32 }
+    ensures { result ≡ least_block pieces.entry Ipv4 size }
+{
+    for piece in pieces {
+        let start = start_within(&piece, size);
+        if start.is_some() {
+            return start;
+        }
+    }
+    None
+}
