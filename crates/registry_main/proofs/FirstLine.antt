@@ -30,10 +30,10 @@ onto_splits b (part ∷ parts) = (b ∷ part, parts, refl)
 splits : (text : List ℕ) → Splits text
 splits [] = record { first = []; others = []; split = refl }
 splits (b ∷ bs) = elim (cases_Bool (b == 10)) [
-    inl e ↦ record { first = []; others = slice_split is_newline bs; split = rw e refl }
+  | inl e ↦ record { first = []; others = slice_split is_newline bs; split = rw e refl }
   | inr e ↦ let found = onto_splits b (slice_split is_newline bs) in
       record { first = found.0; others = found.1; split = rw e found.2 }
-  ]
+]
 
 split_line : (line : List ℕ) (rest : List ℕ) → HasNoNewline line
     → slice_split is_newline (line ++ 10 ∷ rest) ≡ line ∷ slice_split is_newline rest
@@ -81,8 +81,8 @@ first_line [] = record { line = []; clear = tt; rest = inl refl }
 first_line (b ∷ bs) =
     let more = first_line bs in
     elim (cases_Bool (b == 10)) [
-      inl e ↦ record { line = []; clear = tt; rest = inr (bs, ap (λ n. n ∷ bs) (eqb-true b 10 e)) }
-    | inr e ↦ record { line = b ∷ more.line; clear = (e, more.clear); rest = onto more.rest }
+      | inl e ↦ record { line = []; clear = tt; rest = inr (bs, ap (λ n. n ∷ bs) (eqb-true b 10 e)) }
+      | inr e ↦ record { line = b ∷ more.line; clear = (e, more.clear); rest = onto more.rest }
     ]
   where
     onto : {line : List ℕ} → (bs ≡ line) ⊎ ((behind : List ℕ) × (bs ≡ line ++ 10 ∷ behind))
@@ -96,9 +96,9 @@ no_newline-append (x ∷ xs) ys h k = (h.0, no_newline-append xs ys h.1 k)
 
 strip_loses_one : (line : List ℕ) → length line ≤ length (strip_carriage_return line) + 1
 strip_loses_one line = elim (cases_Bool (slice_index line (length line - 1) == 13)) [
-    inl e ↦ rw e (omega (arith, length-take (length line - 1) line))
+  | inl e ↦ rw e (omega (arith, length-take (length line - 1) line))
   | inr e ↦ rw e (omega arith)
-  ]
+]
 
 -- what a line that is too long is answered doesn't depend on it
 answer_overlong : (day : ℕ) (r : Register) (line : List ℕ) → 1024 < length line → answered day r line ≡ step_of day r Malformed
@@ -126,16 +126,16 @@ overlong_same day r long other h k m n tail =
     let clear : (xs : List ℕ) → HasNoNewline xs → HasNoNewline (xs ++ found.line) = λ xs c. no_newline-append xs found.line c found.clear in
     let longer : (xs : List ℕ) → 1025 < length xs → 1025 < length (xs ++ found.line) = λ xs l. simp length-append (omega arith) in
     elim found.rest [
-      inl e ↦
-        let last : (xs : List ℕ) → HasNoNewline xs → 1025 < length xs → replies_to day r (xs ++ tail) ≡ answer_text (step_of day r Malformed).reply =
-            λ xs c l. ap (λ t. replies_to day r (xs ++ t)) e ∙ overlong-last day r (xs ++ found.line) (clear xs c) (longer xs l) in
-        last long h m ∙ sym (last other k n)
-    | inr w ↦
-        let line : (xs : List ℕ) → HasNoNewline xs → 1025 < length xs
-                → replies_to day r (xs ++ tail) ≡ answer_text (step_of day r Malformed).reply ++ replies_to day r w.0 =
-            λ xs c l. ap (λ t. replies_to day r (xs ++ t)) w.1 ∙ ap (replies_to day r) (sym (append_assoc xs found.line (10 ∷ w.0)))
-                ∙ overlong-line day r (xs ++ found.line) w.0 (clear xs c) (longer xs l) in
-        line long h m ∙ sym (line other k n)
+      | inl e ↦
+          let last : (xs : List ℕ) → HasNoNewline xs → 1025 < length xs → replies_to day r (xs ++ tail) ≡ answer_text (step_of day r Malformed).reply =
+          λ xs c l. ap (λ t. replies_to day r (xs ++ t)) e ∙ overlong-last day r (xs ++ found.line) (clear xs c) (longer xs l) in
+          last long h m ∙ sym (last other k n)
+      | inr w ↦
+          let line : (xs : List ℕ) → HasNoNewline xs → 1025 < length xs
+          → replies_to day r (xs ++ tail) ≡ answer_text (step_of day r Malformed).reply ++ replies_to day r w.0 =
+          λ xs c l. ap (λ t. replies_to day r (xs ++ t)) w.1 ∙ ap (replies_to day r) (sym (append_assoc xs found.line (10 ∷ w.0)))
+          ∙ overlong-line day r (xs ++ found.line) w.0 (clear xs c) (longer xs l) in
+          line long h m ∙ sym (line other k n)
     ]
 
 no_newline-take : (n : ℕ) (xs : List ℕ) → HasNoNewline xs → HasNoNewline (take n xs)
@@ -146,9 +146,9 @@ no_newline-take (suc n) (x ∷ xs) h = (h.0, no_newline-take n xs h.1)
 -- the first 1,026 bytes of a line are answered as the line
 held_is_enough : (line : List ℕ) → HasNoNewline line → IsAnsweredAs (take 1026 line) line
 held_is_enough line h = λ day r tail. elim (cases_lt 1026 (length line)) [
-    inl more ↦ overlong_same day r (take 1026 line) line (no_newline-take 1026 line h) h (omega (arith, length-take 1026 line)) (omega arith) tail
+  | inl more ↦ overlong_same day r (take 1026 line) line (no_newline-take 1026 line h) h (omega (arith, length-take 1026 line)) (omega arith) tail
   | inr all ↦ ap (λ l. replies_to day r (l ++ tail)) (take_all 1026 line all)
-  ]
+]
 
 pub kept_line : (old bytes new : List ℕ) → HasNoNewline old → HasNoNewline bytes → new ≡ take 1026 (old ++ bytes) → HasNoNewline new
 kept_line old bytes new h k e = subst HasNoNewline (sym e) (no_newline-take 1026 (old ++ bytes) (no_newline-append old bytes h k))

@@ -15,8 +15,8 @@ parts_of [] = record { others = []; split = refl; words = refl }
 parts_of (b ∷ bs) =
     let rest = parts_of bs in
     elim (cases_Bool (is_blank b)) [
-      inl e ↦ record { others = slice_split is_blank bs; split = rw e refl; words = rw e (rw e refl) }
-    | inr e ↦ record { others = rest.others; split = rw e (ap (onto_first b) rest.split); words = rw e rest.words }
+      | inl e ↦ record { others = slice_split is_blank bs; split = rw e refl; words = rw e (rw e refl) }
+      | inr e ↦ record { others = rest.others; split = rw e (ap (onto_first b) rest.split); words = rw e rest.words }
     ]
 
 pub word_length_within : (text : List ℕ) → word_length text ≤ length text

@@ -1,7 +1,10 @@
 pub mod FirstLine
 pub mod FirstWord
+pub mod FoundBlock
 pub mod Numbering
+pub mod OneWord
 pub mod Parted
 pub mod Rounding
+pub mod Registers
 mod Rows
 pub mod Written

@@ -23,14 +23,14 @@ number_among-push (first ∷ handles) new handle absent =
     let rest = number_among-push handles new handle apart.1 in
     let later : Option ℕ = number_among (handles ++ new ∷ []) handle in
     elim (cases_Bool (bytes_eq new handle)) [
-      inl same ↦
-        let e : new ≡ handle = (bytes_eq-Decides new handle).0 same in
-        let other : bytes_eq first handle ≡ false = subst (λ h. bytes_eq first h ≡ false) e apart.0 in
-        let found : later ≡ Some (length handles) = rest ∙ rw same refl in
-        rw same (rw other (ap (option_map suc) found))
-    | inr differs ↦
-        let kept : later ≡ number_among handles handle = rest ∙ rw differs refl in
-        rw differs (ap (λ o. cond (bytes_eq first handle) (Some 0) (option_map suc o)) kept)
+      | inl same ↦
+          let e : new ≡ handle = (bytes_eq-Decides new handle).0 same in
+          let other : bytes_eq first handle ≡ false = subst (λ h. bytes_eq first h ≡ false) e apart.0 in
+          let found : later ≡ Some (length handles) = rest ∙ rw same refl in
+          rw same (rw other (ap (option_map suc) found))
+      | inr differs ↦
+          let kept : later ≡ number_among handles handle = rest ∙ rw differs refl in
+          rw differs (ap (λ o. cond (bytes_eq first handle) (Some 0) (option_map suc o)) kept)
     ]
 
 -- a look-up that knew the numbers of the handles knows those with the new one once that was put in
@@ -42,7 +42,7 @@ pub after_insert : (handles handles' : List (List ℕ)) (new : List ℕ) (number
 after_insert handles handles' new number before after absent n e known put handle =
     let test = is_eq-slice_cmp new handle in
     let value : after handle ≡ cond (bytes_eq new handle) (Some (length handles)) (number_among handles handle) =
-        put handle ∙ ap (λ b. cond b (Some number) (before handle)) test
-        ∙ ap (λ m. cond (bytes_eq new handle) (Some m) (before handle)) n
-        ∙ ap (λ o. cond (bytes_eq new handle) (Some (length handles)) o) (known handle) in
+    put handle ∙ ap (λ b. cond b (Some number) (before handle)) test
+    ∙ ap (λ m. cond (bytes_eq new handle) (Some m) (before handle)) n
+    ∙ ap (λ o. cond (bytes_eq new handle) (Some (length handles)) o) (known handle) in
     value ∙ sym (number_among-push handles new handle absent) ∙ ap (λ hs. number_among hs handle) (sym e)

@@ -36,7 +36,7 @@ line_answered day (Some xs) (Some ys) r r' line text h e p q tail =
     let reply : List ℕ = answer_text (answered day r text).reply in
     let more : List ℕ = replies_to day (answered day r text).register tail in
     let whole : replies_to day r (line ++ 10 ∷ tail) ≡ reply ++ more =
-        replies_to-line day r line tail h ∙ ap (λ t. answer_text (answered day r t).reply ++ replies_to day (answered day r t).register tail) (sym e) in
+    replies_to-line day r line tail h ∙ ap (λ t. answer_text (answered day r t).reply ++ replies_to day (answered day r t).register tail) (sym e) in
     ap (λ s. ys ++ replies_to day s tail) q ∙ ap (λ l. l ++ more) p ∙ append_assoc xs reply more ∙ ap (λ l. xs ++ l) (sym whole)
 
 -- where a part of its reply was written, that is a part of what was to be written
@@ -50,11 +50,11 @@ line_broken day (Some xs) (Some ys) r line text h e p tail =
     let reply : List ℕ = answer_text (answered day r text).reply in
     let more : List ℕ = replies_to day (answered day r text).register tail in
     let whole : replies_to day r (line ++ 10 ∷ tail) ≡ reply ++ more =
-        replies_to-line day r line tail h ∙ ap (λ t. answer_text (answered day r t).reply ++ replies_to day (answered day r t).register tail) (sym e) in
+    replies_to-line day r line tail h ∙ ap (λ t. answer_text (answered day r t).reply ++ replies_to day (answered day r t).register tail) (sym e) in
     let front : List ℕ = take p.0 reply in
     let rest : List ℕ = drop p.0 reply ++ more in
     let parted : reply ++ more ≡ front ++ rest =
-        ap (λ l. l ++ more) (sym (take-append-drop p.0 reply)) ∙ append_assoc front (drop p.0 reply) more in
+    ap (λ l. l ++ more) (sym (take-append-drop p.0 reply)) ∙ append_assoc front (drop p.0 reply) more in
     (rest, ap (λ l. xs ++ l) (whole ∙ parted) ∙ sym (append_assoc xs front rest) ∙ ap (λ l. l ++ rest) (sym p.1))
 
 -- ---- a piece of the script
@@ -75,7 +75,7 @@ line_held : (day : ℕ) (w : Option (List ℕ)) (r : Register) (line front behin
 line_held day w r line front behind rest held tail same e =
     let more : List ℕ = 10 ∷ (behind ++ tail) in
     let regrouped : line ++ (rest ++ tail) ≡ (line ++ front) ++ more =
-        ap (λ t. line ++ (t ++ tail)) e ∙ ap (λ t. line ++ t) (append_assoc front (10 ∷ behind) tail) ∙ sym (append_assoc line front more) in
+    ap (λ t. line ++ (t ++ tail)) e ∙ ap (λ t. line ++ t) (append_assoc front (10 ∷ behind) tail) ∙ sym (append_assoc line front more) in
     ap (append_known w) (ap (replies_to day r) regrouped ∙ sym (same day r more))
 
 -- after a line the text that is to be written stays the same
@@ -86,7 +86,7 @@ pub piece_goes_on : (day : ℕ) (whole : List ℕ → Option (List ℕ)) (w w' :
     → (tail : List ℕ) → Keeps (whole tail) (with_replies day w' r' (new ++ (behind ++ tail)))
 piece_goes_on day whole w w' r r' line front behind rest held new before same e answered n tail =
     Keeps-trans _ _ _ (Keeps_same _ _ _ (before tail) (line_held day w r line front behind rest held tail same e))
-        (Keeps_same _ _ _ (answered (behind ++ tail)) (ap (λ l. with_replies day w' r' (l ++ (behind ++ tail))) (sym n)))
+    (Keeps_same _ _ _ (answered (behind ++ tail)) (ap (λ l. with_replies day w' r' (l ++ (behind ++ tail))) (sym n)))
 
 -- where a line breaks off, a front of that text was written
 pub piece_breaks : (day : ℕ) (whole : List ℕ → Option (List ℕ)) (w w' : Option (List ℕ)) (r : Register) (line front behind rest held : List ℕ)
@@ -104,7 +104,7 @@ pub piece_held : (day : ℕ) (whole : List ℕ → Option (List ℕ)) (w : Optio
     → (tail : List ℕ) → Keeps (whole tail) (with_replies day w r (held ++ tail))
 piece_held day whole w r line rest held before same tail =
     Keeps_same _ _ _ (before tail)
-        (ap (append_known w) (ap (replies_to day r) (sym (append_assoc line rest tail)) ∙ sym (same day r tail)))
+    (ap (append_known w) (ap (replies_to day r) (sym (append_assoc line rest tail)) ∙ sym (same day r tail)))
 
 -- ---- the first newline of a text
 
@@ -137,15 +137,15 @@ onto_some b (Some parts) front behind e =
 pub parted_none : (text : List ℕ) → parted_at 10 text ≡ None → HasNoNewline text
 parted_none [] e = tt
 parted_none (b ∷ bs) e = elim (cases_Bool (b == 10)) [
-    inl here ↦ let h : ◌≡◌ {A = Option (List ℕ × List ℕ)} (Some ([], bs)) None = rw here at e in cc
+  | inl here ↦ let h : ◌≡◌ {A = Option (List ℕ × List ℕ)} (Some ([], bs)) None = rw here at e in cc
   | inr apart ↦ (apart, parted_none bs (onto_none b (parted_at 10 bs) (rw apart at e)))
-  ]
+]
 
 pub parted_some : (text front behind : List ℕ) → parted_at 10 text ≡ Some (front, behind)
     → HasNoNewline front × (text ≡ front ++ 10 ∷ behind)
 parted_some [] front behind e = cc
 parted_some (b ∷ bs) front behind e = elim (cases_Bool (b == 10)) [
-    inl here ↦
+  | inl here ↦
       let h : ◌≡◌ {A = Option (List ℕ × List ℕ)} (Some ([], bs)) (Some (front, behind)) = rw here at e in
       let empty : [] ≡ front = ap front_of h in
       let rest : bs ≡ behind = ap behind_of h in
@@ -155,7 +155,7 @@ parted_some (b ∷ bs) front behind e = elim (cases_Bool (b == 10)) [
       let found = onto_some b (parted_at 10 bs) front behind (rw apart at e) in
       let more = parted_some bs found.rest behind found.was in
       (subst HasNoNewline (sym found.front_is) (apart, more.0), ap (λ l. b ∷ l) more.1 ∙ ap (λ f. f ++ 10 ∷ behind) (sym found.front_is))
-  ]
+]
 
 -- the same for parts that are seen by a view
 pub newline_parts : {A : Type 0} (now : A → List ℕ) (text : List ℕ) (result : Option (A × A))
@@ -222,9 +222,11 @@ pub last_broken : (day : ℕ) (w w' : Option (List ℕ)) (r : Register) (line : 
 last_broken day None w' r line h some p = tt
 last_broken day (Some xs) None r line h some p = absurd p
 last_broken day (Some xs) (Some ys) r line h some p =
-    let reply : List ℕ = answer_text (answered day r line).reply in
-    (drop p.0 reply, ap (λ t. xs ++ t) (replies_to-last day r line h some ∙ sym (take-append-drop p.0 reply))
-        ∙ sym (append_assoc xs (take p.0 reply) (drop p.0 reply)) ∙ ap (λ l. l ++ drop p.0 reply) (sym p.1))
+    let reply : List ℕ = answer_text (answered day r line).reply in (
+      drop p.0 reply,
+      ap (λ t. xs ++ t) (replies_to-last day r line h some ∙ sym (take-append-drop p.0 reply))
+          ∙ sym (append_assoc xs (take p.0 reply) (drop p.0 reply)) ∙ ap (λ l. l ++ drop p.0 reply) (sym p.1),
+    )
 
 pub OnOk_map : {T E : Type 0} (r : Result T E) {P Q : Type 0} → (P → Q) → OnOk r P → OnOk r Q
 OnOk_map (Ok x) f p = f p
@@ -242,8 +244,8 @@ pub bytes_spent : (entries held budget count entries' held' budget' : ℕ)
     → entries' + held' ≤ entries + held + count → entries' + held' + budget' < 2 ^ 64
 bytes_spent entries held budget count entries' held' budget' before bounded spent made =
     elim (cases_lt 0 (entries + held)) [
-      inl some ↦ let h = before some in omega arith
-    | inr none ↦ omega arith
+      | inl some ↦ let h = before some in omega arith
+      | inr none ↦ omega arith
     ]
 
 -- ---- the end of the script, after which the last line is answered

@@ -63,7 +63,7 @@ abbrev pub delegated : ℕ → Register → ℕ → List ℕ → Option ℕ → 
 delegated day r len handle None = refused r refusals.NoBlock
 delegated day r len handle (Some start) =
     painted r (with_handle r.handles handle) (block_of Ipv4 start len)
-        (record { status = Allocated; holder = Some (holder_number r.handles handle); day = day; until = 0 })
+    (record { status = Allocated; holder = Some (holder_number r.handles handle); day = day; until = 0 })
 
 abbrev pub step_of : ℕ → Register → Line → Step
 step_of day r Nothing = record { register = r; reply = None }

@@ -49,7 +49,13 @@ fn without_return(line: &[u8]) -> &[u8]
 }
 
 /// Answers one line, which is handed in without its line end.
-fn answer_line<K: Sink>(alloc: Global, session: &mut Session, day: u32, line: &[u8], out: &mut K) -> Result<(), Stop>
+fn answer_line<K: Sink>(
+    alloc: Global,
+    session: &mut Session,
+    day: u32,
+    line: &[u8],
+    out: &mut K,
+) -> Result<(), Stop>
     requires { session.old.entries + 1 < 2 ^ 64 }
     ensures ok { OnOk result (Appends (K.written out.old) (K.written out.new) (answer_text (answered day session.old line.now).reply)) }
     ensures register { OnOk result (session.new ≡ (answered day session.old line.now).register) }
@@ -70,7 +76,13 @@ fn answer_line<K: Sink>(alloc: Global, session: &mut Session, day: u32, line: &[
 }
 
 /// Answers the line that is kept, whose end has come, and begins the next.
-fn end_line<K: Sink>(alloc: Global, session: &mut Session, day: u32, line: &mut LineBuffer, out: &mut K) -> Result<(), Stop>
+fn end_line<K: Sink>(
+    alloc: Global,
+    session: &mut Session,
+    day: u32,
+    line: &mut LineBuffer,
+    out: &mut K,
+) -> Result<(), Stop>
     requires { session.old.entries + 1 < 2 ^ 64 }
     ensures ok { OnOk result ((tail : List ℕ) →
         Keeps (with_replies day (K.written out.old) session.old (line.old ++ 10 ∷ tail)) (with_replies day (K.written out.new) session.new tail)) }
@@ -96,7 +108,14 @@ fn part_at_newline(text: &[u8]) -> Option<(&[u8], &[u8])>
 }
 
 /// Answers each line that ends in a piece of the script, and keeps what comes behind the last line end.
-fn answer_lines<K: Sink>(alloc: Global, session: &mut Session, day: u32, line: &mut LineBuffer, piece: &[u8], out: &mut K) -> Result<(), Stop>
+fn answer_lines<K: Sink>(
+    alloc: Global,
+    session: &mut Session,
+    day: u32,
+    line: &mut LineBuffer,
+    piece: &[u8],
+    out: &mut K,
+) -> Result<(), Stop>
     requires { session.old.entries + length line.old + length piece.now < 2 ^ 64 }
     ensures ok { OnOk result ((tail : List ℕ) →
         Keeps (with_replies day (K.written out.old) session.old (line.old ++ (piece.now ++ tail))) (with_replies day (K.written out.new) session.new (line.new ++ tail))) }
@@ -118,7 +137,13 @@ fn answer_lines<K: Sink>(alloc: Global, session: &mut Session, day: u32, line: &
 }
 
 /// Answers the last line, where it has no line end.
-fn end_script<K: Sink>(alloc: Global, session: &mut Session, day: u32, line: &LineBuffer, out: &mut K) -> Result<(), Stop>
+fn end_script<K: Sink>(
+    alloc: Global,
+    session: &mut Session,
+    day: u32,
+    line: &LineBuffer,
+    out: &mut K,
+) -> Result<(), Stop>
     requires { session.old.entries + length line.now < 2 ^ 64 }
     ensures ok { OnOk result (Keeps (with_replies day (K.written out.old) session.old line.now) (K.written out.new)) }
     ensures err { OnErr result (BeginsWith (with_replies day (K.written out.old) session.old line.now) (K.written out.new)) }
@@ -134,7 +159,13 @@ fn end_script<K: Sink>(alloc: Global, session: &mut Session, day: u32, line: &Li
 }
 
 /// Answers a script up to its end. The replies to the lines that have come are written before the next read.
-pub fn answer_script<T: Source, K: Sink>(alloc: Global, session: &mut Session, day: u32, script: &mut T, out: &mut K) -> Result<(), Stop>
+pub fn answer_script<T: Source, K: Sink>(
+    alloc: Global,
+    session: &mut Session,
+    day: u32,
+    script: &mut T,
+    out: &mut K,
+) -> Result<(), Stop>
     requires { session.old.entries ≡ 0 }
     ensures ok { OnOk result (Keeps (with_all_replies day (K.written out.old) session.old [] (T.left script.old)) (K.written out.new)) }
     ensures end { OnOk result (IsAtEnd (T.left script.new)) }

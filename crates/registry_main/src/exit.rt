@@ -14,3 +14,16 @@ pub enum Exit {
     /// There was no memory.
     NoMemory = 8,
 }
+
+impl Exit {
+    /// The line on standard error, where there is one.
+    pub fn fault_text(self) -> Option<&'static str> {
+        match self {
+            Exit::Done => None,
+            Exit::Usage => Some("usage: registry_main batch"),
+            Exit::ReadFault => Some("read fault"),
+            Exit::WriteFault => Some("write fault"),
+            Exit::NoMemory => Some("no memory"),
+        }
+    }
+}

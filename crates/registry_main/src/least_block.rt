@@ -1,5 +1,7 @@
 //! The search for the block that a delegation takes.
-ghost use Rattle.std.specs.Prelude.{◌≡◌, ◌≤◌, ◌<◌, ◌+◌, ◌^◌, ◌%◌, None, Some, true, false, MatchOption};
+ghost use Rattle.std.specs.Prelude.{◌≡◌, ◌≤◌, ◌<◌, ◌+◌, ◌^◌, ◌%◌, None, Some, true, false, IfSome, MatchOption, ◌-◌};
+ghost use Rattle.num_range.specs.Space.{top_of};
+ghost use Rattle.reg_entry.specs.Pieces.{ArePieces, IsInOnePieceOrNone};
 ghost use Rattle.num_range.specs.declared.space.Space.TheVariants.{Ipv4};
 ghost use Rattle.reg_entry.specs.Blocks.{rounded_up, least_block};
 ghost use Rattle.registry_main.specs.Fitting.{has_room};
@@ -38,10 +40,14 @@ fn start_within(piece: &Piece, size: u128) -> Option<u128>
 
 /// The start of the least aligned block of a size, all of whose numbers are available. The search goes over the pieces
 /// once, up to the one in which the block lies.
+#[tactic(auto, using(crate::proofs::FoundBlock::found_within, crate::proofs::FoundBlock::found_in_one))]
 pub fn least_block(pieces: PieceWalk<'_>, size: u128) -> Option<u128>
+    requires valid { ArePieces Ipv4 pieces }
     requires least { 0 < size }
     requires most { size ≤ 2 ^ 32 }
-    ensures { result ≡ least_block pieces.entry Ipv4 size }
+    ensures block { result ≡ least_block pieces.entry Ipv4 size }
+    ensures within { IfSome result (λ start. start + (size - 1) ≤ top_of Ipv4) }
+    ensures one { IfSome result (λ start. IsInOnePieceOrNone pieces.entry (record { space = Ipv4; first = start; last = start + (size - 1) })) }
 {
     for piece in pieces {
         let start = start_within(&piece, size);

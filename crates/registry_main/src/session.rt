@@ -63,10 +63,7 @@ impl Session {
     {
         let pieces = self.book.pieces_after(range, status);
         if pieces > ROOM {
-            return Err(Refusal::RegisterFull {
-                pieces,
-                room: ROOM,
-            });
+            return Err(Refusal::RegisterFull { pieces, room: ROOM });
         }
         Ok(())
     }
@@ -119,6 +116,7 @@ impl Session {
         requires number { self.old.entries + 1 < 2 ^ 64 }
         ensures ok { IfOk result (λ reply. delegated day self.old len handle.now (least_block self.old.pieces Ipv4 (block_size Ipv4 len))
             ≡ record { register = self.new; reply = Some reply }) }
+        ensures entries { self.new.entries ≤ self.old.entries + 1 }
         ensures err { OnErr result (self.new ≡ self.old) }
     {
         let Some(range) = self.find_block(len) else {

@@ -9,7 +9,7 @@ invariant-pieces g l = record {
   reads : g.T.Source.faults l.initial.script ≤ g.T.Source.faults l.script;
   writes : g.K.Sink.faults l.initial.out ≤ g.K.Sink.faults l.out;
   kept : Keeps (with_all_replies l.day (g.K.Sink.written l.initial.out) l.initial.session [] (g.T.Source.left l.initial.script))
-      (with_all_replies l.day (g.K.Sink.written l.out) l.session l.line (g.T.Source.left l.script))
+      (with_all_replies l.day (g.K.Sink.written l.out) l.session l.line (g.T.Source.left l.script));
 }
 
 abbrev pub decreases-pieces : goal.decreases-pieces
