@@ -26,9 +26,12 @@ fn start_within(piece: &Piece, size: u128) -> Option<u128>
     requires most { size ≤ 2 ^ 32 }
     ensures { MatchOption result (has_room piece.now size ≡ false) (λ start. (has_room piece.now size ≡ true) × (start ≡ rounded_up piece.now.range.first size)) }
 {
+    if !piece.card.status.is_available() {
+        return None;
+    }
     let first = piece.range.first();
     let behind = piece.range.last() - first;
-    if !piece.card.status.is_available() || behind < size - 1 {
+    if behind < size - 1 {
         return None;
     }
     let gap = gap(first, size);

@@ -80,3 +80,6 @@ pub fn run<R: AllocGlobal, T: Source, K: Sink, C: Clock>(
         Err(Stop::Memory) => Exit::NoMemory,
     }
 }
+
+#[cfg(test)]
+mod tests;
