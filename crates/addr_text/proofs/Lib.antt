@@ -1,0 +1,5 @@
+pub mod Decimals
+pub mod Separators
+pub mod Once
+pub mod Parsed
+pub mod Written
