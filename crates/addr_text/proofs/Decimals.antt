@@ -21,8 +21,7 @@ HasPlainStart text = (get_or text 0 0 ≢ 43) × (get_or text 0 0 ≡ 48 → len
 pub HasPlainStart-decimal : (n : ℕ) → n < 2 ^ 32 → HasPlainStart (decimal n)
 HasPlainStart-decimal n fits =
     let numeral = (decimal_is_IsNumeral n (omega arith)).0 in
-    let first = digit_at (decimal n) 0 numeral.1 numeral.0 in
-    (
+    let first = digit_at (decimal n) 0 numeral.1 numeral.0 in (
       omega arith,
       λ zero. elim (cases_eq n 0) [
         | inl none ↦ length-decimal_digit n (omega arith)
@@ -50,8 +49,8 @@ module _ {E : Type 0} (text digits : List ℕ) (same : digits ≡ text) (start :
   unspelled : (q : Result ℕ E) → ParsesUnsigned 32 10 digits q → IfNone (result_ok q) ((n : ℕ) → n < 2 ^ 32 → text ≢ decimal n)
   unspelled (Ok m) h = tt
   unspelled (Err e) h = λ n fits same_text.
-    let numeral = decimal_is_IsNumeral n (omega arith) in
-    plain (Err e) h (rw same_text (numeral.0.1, numeral.0.0, omega (arith, numeral.1)))
+      let numeral = decimal_is_IsNumeral n (omega arith) in
+      plain (Err e) h (rw same_text (numeral.0.1, numeral.0.0, omega (arith, numeral.1)))
 
   pub decimal_parsed : IfSome (result_ok r) (λ n. text ≡ decimal n)
   decimal_parsed = spelled r parsed

@@ -22,20 +22,17 @@ pub fn spells_one()
         → SpellsBlock text n l → (m ≡ n) × (k ≡ l) }
     ensures range { (text : List ℕ) (r s : PlainRange) → SpellsRange text r → SpellsRange text s
         → r ≡ s }
-{
-}
+{}
 
 #[tactic(auto, using(crate::proofs::Written::number_written, crate::proofs::Written::range_written))]
 /// The text that is written of a number, and of a range without blanks, spells it.
 pub fn reads_written()
     ensures number { (n : PlainNumber) → IsNumber n → SpellsNumber (number_text n) n }
     ensures range { (r : PlainRange) → IsRange r → SpellsRange (range_text false r) r }
-{
-}
+{}
 
 #[tactic(auto, using(crate::proofs::Written::shortened))]
 /// An IPv6 address is written as RFC 5952 4.2 shortens it.
 pub fn shortens_longest()
     ensures { (value : ℕ) → IsShortened (text_of Space.Ipv6 value) (groups_of value) }
-{
-}
+{}

@@ -17,3 +17,6 @@ pub use block::read_block;
 pub use laws::{reads_written, shortens_longest, spells_one};
 pub use number::{read_asn, read_number, write_number};
 pub use range::{read_range, write_range};
+
+#[cfg(test)]
+mod tests;
