@@ -3,3 +3,4 @@ pub mod Separators
 pub mod Once
 pub mod Parsed
 pub mod Written
+pub mod Valid

@@ -1,5 +1,5 @@
 -- What a reader's failure shows: that the text spells nothing.
-use Rattle.std.proofs.Common.{◌≡◌, ◌≢◌, ℕ, ◌<◌, ◌≤◌, ◌^◌, List, ◌∷◌, ◌++◌, [], All, codes, decimal, drop, Option, None, Some, Result, Ok, Err, IfNone, IsSome, ◌↔◌, ◌⊎◌, inl, inr, refl, sym, ap, ◌∙◌, subst, append_assoc, arith}
+use Rattle.std.proofs.Common.{◌≡◌, ◌≢◌, ℕ, ◌<◌, ◌≤◌, ◌^◌, List, ◌∷◌, ◌++◌, [], All, codes, decimal, drop, Option, None, Some, Result, Ok, Err, IfNone, IsSome, ◌↔◌, inl, inr, refl, sym, ap, ◌∙◌, subst, append_assoc, arith}
 use Rattle.std.specs.Result.{result_ok}
 use Rattle.std.specs.Net.Grammar.{Parses}
 use Rattle.std.proofs.lemmas.Fmt.{decimal_injective}

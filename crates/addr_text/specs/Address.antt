@@ -7,7 +7,7 @@ use Rattle.num_range.specs.declared.space.Space.{Space}
 use Rattle.num_range.specs.declared.space.Space.TheVariants.{Asn, Ipv4, Ipv6}
 use Rattle.num_range.specs.Number.{PlainNumber}
 
--- four decimal octets without leading zeros, dots between them, the most significant first
+-- four decimal octets without leading zeros, dots between them, the most significant first (RFC 3986 3.2.2)
 abbrev pub SpellsIpv4 : List ℕ → ℕ → Type 0
 SpellsIpv4 text value = (octets : List ℕ) × IsDotted text octets × (value ≡ from_be_bytes w32 octets)
 
@@ -17,7 +17,7 @@ abbrev pub SpellsIpv6 : List ℕ → ℕ → Type 0
 SpellsIpv6 text value =
     (groups : List ℕ) × IsColonHex text groups × (value ≡ from_be_bytes w128 (octets_of groups))
 
--- an address of the space; there are none of AS numbers
+-- an address of the space; an AS number is none
 abbrev pub SpellsAddressOf : Space → List ℕ → ℕ → Type 0
 SpellsAddressOf Asn text value = ⊥
 SpellsAddressOf Ipv4 text value = SpellsIpv4 text value

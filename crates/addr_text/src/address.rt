@@ -1,9 +1,9 @@
 ghost use Rattle.std.specs.Prelude.{◌≡◌, ℕ, ◌+◌, ◌≤◌, ◌++◌, decimal, IfSome, IfNone};
-ghost use Rattle.num_range.specs.Number.{PlainNumber};
-ghost use Rattle.addr_text.specs.Address.{SpellsIpv4, SpellsIpv6, SpellsAddress};
 ghost use Rattle.std.specs.Int.{w32, to_be_bytes};
 ghost use Rattle.std.specs.Net.Text.{ipv4_text};
 ghost use Rattle.arrayvec.specs.ArrayVec.{array_vec_len};
+ghost use Rattle.num_range.specs.Number.{PlainNumber};
+ghost use Rattle.addr_text.specs.Address.{SpellsIpv4, SpellsIpv6, SpellsAddress};
 
 use crate::decimal::push_decimal;
 use arrayvec::ArrayVec;

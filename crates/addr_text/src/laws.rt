@@ -1,4 +1,5 @@
-//! What holds of all texts: a text has one meaning at most, what is written is read again, and what `::` stands for.
+//! What holds of all texts: what a text spells is one valid value, what is written is read again, and `::` stands for
+//! the longest run of zero groups.
 ghost use Rattle.std.specs.Prelude.{◌≡◌, ℕ, List, false};
 ghost use Rattle.num_range.specs.Number.{PlainNumber, IsNumber};
 ghost use Rattle.num_range.specs.Range.{PlainRange, IsRange};
@@ -11,7 +12,7 @@ ghost use Rattle.addr_text.specs.Shortening.{IsShortened};
 use num_range::Space;
 
 /// A text spells at most one address, AS number, number, block and range.
-#[tactic(auto, using(crate::proofs::Once::address_once, crate::proofs::Once::asn_once, crate::proofs::Once::number_once, crate::proofs::Once::block_once, crate::proofs::Once::range_once))]
+#[tactic(auto, using(crate::proofs::Once::address_once, crate::proofs::Once::asn_once, crate::proofs::Once::number_once))]
 pub fn spells_one()
     ensures address { (text : List ℕ) (m n : PlainNumber) → SpellsAddress text m
         → SpellsAddress text n → m ≡ n }
@@ -24,15 +25,22 @@ pub fn spells_one()
         → r ≡ s }
 {}
 
-#[tactic(auto, using(crate::proofs::Written::number_written, crate::proofs::Written::range_written))]
+/// What a text spells is a number of its space, and a range of it.
+#[tactic(auto, using(crate::proofs::Valid::number_valid))]
+pub fn spells_valid()
+    ensures number { (text : List ℕ) (n : PlainNumber) → SpellsNumber text n → IsNumber n }
+    ensures range { (text : List ℕ) (r : PlainRange) → SpellsRange text r → IsRange r }
+{}
+
 /// The text that is written of a number, and of a range without blanks, spells it.
+#[tactic(auto, using(crate::proofs::Written::number_written, crate::proofs::Written::range_written))]
 pub fn reads_written()
     ensures number { (n : PlainNumber) → IsNumber n → SpellsNumber (number_text n) n }
     ensures range { (r : PlainRange) → IsRange r → SpellsRange (range_text false r) r }
 {}
 
-#[tactic(auto, using(crate::proofs::Written::shortened))]
 /// An IPv6 address is written as RFC 5952 4.2 shortens it.
+#[tactic(auto, using(crate::proofs::Written::shortened))]
 pub fn shortens_longest()
     ensures { (value : ℕ) → IsShortened (text_of Space.Ipv6 value) (groups_of value) }
 {}

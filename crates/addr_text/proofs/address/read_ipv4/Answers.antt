@@ -1,4 +1,4 @@
-use Rattle.std.proofs.Common.{◌≡◌, sym, ◌∙◌}
+use Rattle.std.proofs.Common.{sym, ◌∙◌}
 use Rattle.std.specs.Net.Grammar.{IsIpv4Text}
 use Rattle.addr_text.proofs.Parsed.{none_parsed}
 use Rattle.addr_text.proofs.address.read_ipv4.Goals as goal

@@ -1,4 +1,4 @@
-use Rattle.std.proofs.Common.{◌≡◌, sym, ◌∙◌}
+use Rattle.std.proofs.Common.{sym, ◌∙◌}
 use Rattle.std.specs.Net.Grammar.{IsIpv6Text}
 use Rattle.addr_text.proofs.Parsed.{none_parsed}
 use Rattle.addr_text.proofs.address.read_ipv6.Goals as goal

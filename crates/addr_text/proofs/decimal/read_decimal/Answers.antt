@@ -1,4 +1,4 @@
-use Rattle.std.proofs.Common.{◌≡◌, ℕ, List, sym, subst, false, true, IsTrue}
+use Rattle.std.proofs.Common.{sym, subst, IsTrue}
 use Rattle.addr_text.proofs.Decimals.{HasPlainStart, HasPlainStart-decimal, IsUtf8-decimal, decimal_parsed, not_decimal_parsed}
 use Rattle.std.specs.Str.{IsUtf8}
 use Rattle.addr_text.proofs.decimal.read_decimal.Goals as goal

@@ -1,5 +1,5 @@
 use Rattle.std.proofs.Common.{IsTrue}
-use Rattle.addr_text.proofs.Parsed.{no_pair, no_pair_first, no_pair_last, no_pair_order}
+use Rattle.addr_text.proofs.Parsed.{no_pair_first, no_pair_last, no_pair_order}
 use Rattle.addr_text.proofs.range.read_first_to_last.Goals as goal
 
 pub returns-in_err-first-2-clause-none : goal.returns-in_err-first-2-clause-none
