@@ -1,0 +1,6 @@
+pub mod Decimals
+pub mod Separators
+pub mod Once
+pub mod Parsed
+pub mod Written
+pub mod Valid

@@ -1,0 +1,5 @@
+pub mod Address
+pub mod Block
+pub mod Number
+pub mod Range
+pub mod Shortening

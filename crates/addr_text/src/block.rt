@@ -1,0 +1,23 @@
+ghost use Rattle.std.specs.Prelude.{◌≡◌, ℕ, IfSome, IfNone};
+ghost use Rattle.num_range.specs.Number.{PlainNumber};
+ghost use Rattle.addr_text.specs.Block.{SpellsBlock};
+
+use crate::address::read_addr;
+use crate::decimal::read_decimal;
+use crate::separator::split_once;
+use num_range::Number;
+
+/// The address and the prefix length of the block that the text spells (RFC 4632 3.1, RFC 4291 2.3). The address may
+/// have bits set past the length.
+pub fn read_block(text: &[u8]) -> Option<(Number, u32)>
+    ensures some { IfSome result (λ block. SpellsBlock text.now block.0 block.1) }
+    ensures none { IfNone result ((n : PlainNumber) (len : ℕ) → ¬ (SpellsBlock text.now n len)) }
+{
+    let (address, length) = split_once(text, b'/')?;
+    let address = read_addr(address)?;
+    let length = read_decimal(length)?;
+    if length > address.space().width() {
+        return None;
+    }
+    Some((address, length))
+}

@@ -1,0 +1,22 @@
+//! Addresses, blocks, AS numbers and ranges as text. IPv4 is dotted decimal, and IPv6 is read as RFC 4291 2.2 and
+//! written as RFC 5952 4 has it.
+#![tactic(auto)]
+
+mod address;
+mod append;
+mod block;
+mod decimal;
+mod ipv6;
+mod laws;
+mod number;
+mod range;
+mod separator;
+
+pub use address::read_addr;
+pub use block::read_block;
+pub use laws::{reads_written, shortens_longest, spells_one, spells_valid};
+pub use number::{read_asn, read_number, write_number};
+pub use range::{read_range, write_range};
+
+#[cfg(test)]
+mod tests;

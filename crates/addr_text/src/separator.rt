@@ -1,0 +1,12 @@
+//! Texts of two parts with a separator between them.
+ghost use Rattle.std.specs.Prelude.{◌≡◌, ◌≢◌, ◌∷◌, ◌++◌, All, IfSome, IfNone};
+
+/// What stands before the first of these bytes, and what stands after it.
+pub(crate) fn split_once(text: &[u8], separator: u8) -> Option<(&[u8], &[u8])>
+    ensures parts { IfSome result (λ parts. text.now ≡ parts.0.now ++ separator ∷ parts.1.now) }
+    ensures first { IfSome result (λ parts. All (λ byte. byte ≢ separator) parts.0.now) }
+    ensures none { IfNone result (All (λ byte. byte ≢ separator) text.now) }
+{
+    let place = text.iter().position(|byte| *byte == separator)?;
+    Some((&text[..place], &text[place + 1..]))
+}
