@@ -65,6 +65,7 @@ pub fn run<R: AllocGlobal, T: Source, K: Sink, C: Clock>(
     ensures read_fault { result ≡ ReadFault → HasRisen (T.faults script.old) (T.faults script.new) }
     ensures write_fault { result ≡ WriteFault → HasRisen (K.faults out.old) (K.faults out.new) }
 {
+    // A law, for `least` and `taken`.
     answers_are_least();
     if !is_batch(words) {
         return Exit::Usage;
