@@ -1,3 +1,5 @@
 pub mod Sizes
 pub mod Halving
-pub mod Front
+pub mod Greedy
+pub mod Bits
+pub mod FrontBits

@@ -43,6 +43,10 @@ multiple_of_lesser n j k le e =
 pub size_pos : (space : Space) (len : ℕ) → 0 < block_size space len
 size_pos space len = pow_pos (width_of space - len)
 
+-- the block of length 0 is the whole space
+pub size_of_whole : (space : Space) → block_size space 0 ≡ 2 ^ width_of space
+size_of_whole space = ap (λ k. 2 ^ k) (let e : width_of space - 0 ≡ width_of space = omega arith in e)
+
 pub size_halves : (space : Space) (len : ℕ) → len < width_of space → block_size space len ≡ block_size space (len + 1) + block_size space (len + 1)
 size_halves space len h =
     let bits : ℕ = width_of space - (len + 1) in

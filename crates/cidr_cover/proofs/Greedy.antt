@@ -1,13 +1,17 @@
 -- The blocks inside a range are the widest one at its front, and then those of what is behind that.
-use Rattle.std.proofs.Common.{◌≡◌, ℕ, zero, suc, ◌+◌, ◌-◌, ◌%◌, ◌<◌, ◌≤◌, Bool, true, false, ◌&&◌, nat_le, List, [], ◌∷◌, ◌++◌, ◌⊎◌, inl, inr, sym, ◌∙◌, ap, subst, arith}
-use Rattle.std.proofs.lemmas.Bool.{and_parts, and_from, le-leb, cases_lt, false_from_ne_true}
+use Rattle.std.proofs.Common.{◌≡◌, ℕ, zero, suc, ◌+◌, ◌-◌, ◌%◌, ◌<◌, ◌≤◌, Bool, true, false, ◌&&◌, nat_le, List, [], ◌∷◌, ◌++◌, ◌⊎◌, inl, inr, refl, Option, None, Some, nat_lt, sym, ◌∙◌, ap, subst, arith}
+use Rattle.std.proofs.lemmas.Bool.{and_parts, and_from, le-leb, lt-ltb, le-ltb, cond-true, cond-false, cases_lt, false_from_ne_true}
+use Rattle.std.proofs.Math.Nat.{zero-mod}
+use Rattle.std.specs.Option.{option_map_or}
 use Rattle.num_range.specs.declared.space.Space.{Space}
-use Rattle.num_range.specs.Space.{width_of}
+use Rattle.num_range.specs.Space.{width_of, top_of}
 use Rattle.num_range.specs.Range.{PlainRange}
-use Rattle.num_range.specs.Block.{block_size, block_of}
-use Rattle.num_range.specs.Cover.{blocks_inside}
-use Rattle.cidr_cover.proofs.Sizes.{size_pos, size_halves, multiples_apart, multiple_of_longer}
-use Rattle.cidr_cover.proofs.Halving.{is_inside, inside_from, inside_parts, IsPlace, place-first, place-second, IsWithin, blocks-whole, blocks-beside, blocks-halves, with_ends, blocks-agree}
+use Rattle.num_range.specs.Block.{block_size, block_of, IsBlockStart}
+use Rattle.num_range.specs.Cover.{blocks_inside, least_cover}
+use Rattle.num_range.proofs.BlockEnds.{top-below}
+use Rattle.cidr_cover.specs.Front.{IsFrontBlock, behind_front}
+use Rattle.cidr_cover.proofs.Sizes.{size_pos, size_halves, multiples_apart, multiple_of_longer, size_of_whole, size_is_multiple}
+use Rattle.cidr_cover.proofs.Halving.{is_inside, inside_from, inside_parts, IsPlace, place-first, place-second, IsWithin, blocks-whole, blocks-beside, blocks-empty, blocks-halves, with_ends, blocks-agree}
 
 -- the block of this length is the widest asked one at the range's front
 pub record IsFront (asked : ℕ → Bool) (r : PlainRange) (deepest n : ℕ) : Type 0 where
@@ -91,3 +95,63 @@ blocks-front asked r n deepest (suc left) len start place front le low high =
                 ∙ ap (λ bs. block_of r.space r.first n ∷ bs) (sym split_rest)
           ]
     ]
+
+-- ---- from the whole space down
+
+pub place-whole : (space : Space) (deepest : ℕ) → deepest ≤ width_of space → IsPlace space deepest deepest 0 0
+place-whole space deepest h = record { levels = omega arith; fits = h; aligned = zero-mod (block_size space 0) }
+
+-- an aligned block ends within the space
+block-ends : (space : Space) (len start : ℕ) → IsBlockStart space start len → start + block_size space len ≤ block_size space 0
+block-ends space len start h =
+    let top = top-below space in
+    let whole = size_of_whole space in
+    multiples_apart start (block_size space 0) (block_size space len) h.2 (size_is_multiple space 0 len (omega arith)) (omega arith)
+
+-- what is behind the front block, where there is something, and else the empty range
+left_behind : (f : PlainRange → List PlainRange) (r : PlainRange) (n : ℕ) → (r.last < r.first + block_size r.space n → f (behind r n) ≡ [])
+    → option_map_or f (behind_front r n) [] ≡ f (behind r n)
+left_behind f r n empty =
+    let pos = size_pos r.space n in
+    let last : ℕ = r.first + (block_size r.space n - 1) in
+    let next : last + 1 ≡ r.first + block_size r.space n = omega arith in
+    elim (cases_lt last r.last) [
+      | inl lt ↦
+          ap (λ rest. option_map_or f rest []) (cond-true (nat_lt last r.last) (Some (with_ends r (last + 1) r.last)) None (lt-ltb last r.last lt))
+          ∙ ap (λ first. f (with_ends r first r.last)) next
+      | inr le ↦
+          ap (λ rest. option_map_or f rest []) (cond-false (nat_lt last r.last) (Some (with_ends r (last + 1) r.last)) None (le-ltb last r.last le))
+          ∙ sym (empty (omega arith))
+    ]
+
+-- a list that halving gives for each range within the same space begins with the front block
+blocks-step : (asked : ℕ → Bool) (f : PlainRange → List PlainRange) (r : PlainRange) (deepest n : ℕ)
+    → ((first last : ℕ) → f (with_ends r first last) ≡ blocks_inside asked (with_ends r first last) deepest 0 0)
+    → deepest ≤ width_of r.space → IsFront asked r deepest n → r.first ≤ top_of r.space
+    → f r ≡ block_of r.space r.first n ∷ option_map_or f (behind_front r n) []
+blocks-step asked f r deepest n halving h front top =
+    let place = place-whole r.space deepest h in
+    let deep = front.deep in
+    let ends = block-ends r.space n r.first (omega arith, top, front.aligned) in
+    let rest : PlainRange = behind r n in
+    halving r.first r.last
+    ∙ blocks-front asked r n deepest deepest 0 0 place front (omega arith) (omega arith) (omega arith)
+    ∙ ap (λ bs. block_of r.space r.first n ∷ bs)
+    (sym (halving rest.first rest.last)
+    ∙ sym (left_behind f r n (λ empty. halving rest.first rest.last ∙ blocks-empty asked rest deepest deepest 0 0 place empty)))
+
+-- the least cover begins with the widest block at the range's front
+pub least_cover-front : (r : PlainRange) (n : ℕ) → IsFrontBlock r n → ((len : ℕ) → len < n → IsFrontBlock r len → ⊥)
+    → least_cover r ≡ block_of r.space r.first n ∷ option_map_or least_cover (behind_front r n) []
+unfolding least_cover
+least_cover-front r n front widest =
+    let starts = front.starts in
+    blocks-step (λ _. true) least_cover r (width_of r.space) n (λ _ _. refl) (omega arith)
+    (record {
+      is_asked = refl;
+      deep = starts.0;
+      aligned = starts.2;
+      fits = front.ends;
+      widest = λ k shorter _ aligned ends. widest k shorter (record { starts = (omega arith, starts.1, aligned); ends = ends });
+    })
+    starts.1
