@@ -125,7 +125,7 @@ left_behind f r n empty =
     ]
 
 -- a list that halving gives for each range within the same space begins with the front block
-blocks-step : (asked : ℕ → Bool) (f : PlainRange → List PlainRange) (r : PlainRange) (deepest n : ℕ)
+pub blocks-step : (asked : ℕ → Bool) (f : PlainRange → List PlainRange) (r : PlainRange) (deepest n : ℕ)
     → ((first last : ℕ) → f (with_ends r first last) ≡ blocks_inside asked (with_ends r first last) deepest 0 0)
     → deepest ≤ width_of r.space → IsFront asked r deepest n → r.first ≤ top_of r.space
     → f r ≡ block_of r.space r.first n ∷ option_map_or f (behind_front r n) []

@@ -99,17 +99,21 @@ within-second space deepest len start k at lt h =
     let halves = size_halves space len lt in
     record { deep = h.deep; after = omega arith; before = omega arith; aligned = h.aligned }
 
--- ---- nothing is found where no block lies inside
+-- ---- nothing is found where no asked block lies inside
+
+not_both : (x y : Bool) → (x ≡ true → y ≡ true → ⊥) → (x && y) ≡ false
+not_both x y h = false_from_ne_true (x && y) (λ e. let both = and_parts x y e in h both.0 both.1)
 
 pub blocks-none : (asked : ℕ → Bool) (r : PlainRange) (deepest left len start : ℕ) → IsPlace r.space deepest left len start
-    → ((k at : ℕ) → IsWithin r.space deepest len start k at → is_inside r k at ≡ false) → blocks_inside asked r left len start ≡ []
+    → ((k at : ℕ) → IsWithin r.space deepest len start k at → asked k ≡ true → is_inside r k at ≡ true → ⊥)
+    → blocks_inside asked r left len start ≡ []
 blocks-none asked r deepest zero len start place none =
     blocks-end asked r len start
-    (and_right (asked len) (is_inside r len start) (none len start (within-self r.space deepest zero len start place)))
+    (not_both (asked len) (is_inside r len start) (none len start (within-self r.space deepest zero len start place)))
 blocks-none asked r deepest (suc left) len start place none =
     let lt : len < width_of r.space = omega arith in
     let middle : ℕ = start + block_size r.space (len + 1) in
-    let outside = and_right (asked len) (is_inside r len start) (none len start (within-self r.space deepest (suc left) len start place)) in
+    let outside = not_both (asked len) (is_inside r len start) (none len start (within-self r.space deepest (suc left) len start place)) in
     elim (cases_Bool (has_some_of (block_of r.space start len) r)) [
       | inl met ↦
           blocks-met asked r left len start outside met
@@ -126,19 +130,17 @@ pub blocks-beside : (asked : ℕ → Bool) (r : PlainRange) (deepest left len st
     → (r.last < start) ⊎ (start + block_size r.space len ≤ r.first) → blocks_inside asked r left len start ≡ []
 blocks-beside asked r deepest left len start place beside =
     blocks-none asked r deepest left len start place
-    (λ k at h.
+    (λ k at h _ e.
     let pos = size_pos r.space k in
-    false_from_ne_true (is_inside r k at)
-    (λ e.
     let parts = inside_parts r k at e in
-    elim beside [ inl below ↦ omega arith | inr above ↦ omega arith ]))
+    elim beside [ inl below ↦ omega arith | inr above ↦ omega arith ])
 
 -- an empty range has no blocks
 pub blocks-empty : (asked : ℕ → Bool) (r : PlainRange) (deepest left len start : ℕ) → IsPlace r.space deepest left len start
     → r.last < r.first → blocks_inside asked r left len start ≡ []
 blocks-empty asked r deepest left len start place lt =
     blocks-none asked r deepest left len start place
-    (λ k at h. false_from_ne_true (is_inside r k at) (λ e. let parts = inside_parts r k at e in omega arith))
+    (λ k at h _ e. let parts = inside_parts r k at e in omega arith)
 
 -- ---- a block that isn't taken gives what its halves give
 

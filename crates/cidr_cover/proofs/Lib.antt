@@ -3,3 +3,4 @@ pub mod Halving
 pub mod Greedy
 pub mod Bits
 pub mod FrontBits
+pub mod Cutting

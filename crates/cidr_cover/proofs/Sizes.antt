@@ -1,8 +1,9 @@
 -- The sizes of blocks are powers of two: each divides the greater ones, and is twice the next.
 use Rattle.std.proofs.Common.{◌≡◌, ℕ, suc, ◌+◌, ◌-◌, ◌*◌, ◌/◌, ◌%◌, ◌^◌, ◌<◌, ◌≤◌, ◌⊎◌, inl, inr, sym, ◌∙◌, ap, arith}
-use Rattle.std.proofs.Math.Nat.{pow-suc, pow-le-pow_right, mul-mod_left, mod_self, add-mod, zero-mod, mul-le-mul_right, mul_assoc}
-use Rattle.std.proofs.lemmas.Bool.{cases_lt}
-use Rattle.std.proofs.lemmas.Nat.{pow-add, pow_pos, div-add-mod'}
+use Rattle.std.proofs.Math.Nat.{pow-suc, pow-le-pow_right, mul-mod_left, mod_self, mod-eq_of_lt, add-mod, zero-mod, mul-le-mul_right, mul_assoc}
+use Rattle.std.proofs.lemmas.Bool.{cases_lt, cases_eq}
+use Rattle.std.specs.Int.{next_multiple_of}
+use Rattle.std.proofs.lemmas.Nat.{pow-add, pow_pos, div-add-mod', mod_below}
 use Rattle.num_range.specs.declared.space.Space.{Space}
 use Rattle.num_range.specs.Space.{width_of}
 use Rattle.num_range.specs.Block.{block_size}
@@ -37,6 +38,22 @@ multiple_of_lesser n j k le e =
     let count : ℕ = n / 2 ^ k in
     let product : (count * 2 ^ (k - j)) * 2 ^ j ≡ n = mul_assoc count (2 ^ (k - j)) (2 ^ j) ∙ ap (λ m. count * m) (sym split) ∙ whole in
     ap (λ m. m % 2 ^ j) (sym product) ∙ mul-mod_left (count * 2 ^ (k - j)) (2 ^ j)
+
+-- the least multiple that is no less than a number
+pub next_multiple : (n d : ℕ) → 0 < d → (n ≤ next_multiple_of n d) × (next_multiple_of n d < n + d) × (next_multiple_of n d % d ≡ 0)
+next_multiple n d pos =
+    let parts : n / d * d + n % d ≡ n = div-add-mod' n d in
+    let rest : n % d < d = mod_below n d pos in
+    elim (cases_eq (n % d) 0) [
+      | inl e ↦
+          let more : (d - n % d) % d ≡ 0 = ap (λ m. m % d) (let whole : d - n % d ≡ d = omega arith in whole) ∙ mod_self d in
+          let same : next_multiple_of n d ≡ n = omega arith in
+          (omega arith, omega arith, ap (λ m. m % d) same ∙ e)
+      | inr ne ↦
+          let more : (d - n % d) % d ≡ d - n % d = mod-eq_of_lt (omega arith) in
+          let next : next_multiple_of n d ≡ (n / d + 1) * d = omega arith in
+          (omega arith, omega arith, ap (λ m. m % d) next ∙ mul-mod_left (n / d + 1) d)
+    ]
 
 -- ---- sizes of blocks
 

@@ -3,6 +3,8 @@
 #![tactic(auto)]
 
 mod cover_walk;
+mod cut_walk;
 mod front;
 
 pub use cover_walk::{CoverWalk, cover};
+pub use cut_walk::{CutWalk, cuts};
