@@ -109,7 +109,7 @@ cuts-from r =
     (elim (cases_lt at (cut_start r)) [
       | inl before ↦
           let apart : at + block_size r.space longest ≤ cut_start r =
-          multiples_apart at (cut_start r) (block_size r.space longest) h.aligned next.2 before in
+          multiples_apart at (cut_start r) (block_size r.space longest) (multiple_of_longer r.space at k longest h.deep h.aligned) next.2 before in
           lt-leb r.first at (omega arith) ∙ sym (lt-leb (cut_start r) at before)
       | inr after ↦ le-leb r.first at (omega arith) ∙ sym (le-leb (cut_start r) at after)
     ]))

@@ -1,5 +1,6 @@
 -- What halving finds in the block of a length that starts at a number.
-use Rattle.std.proofs.Common.{◌≡◌, ℕ, zero, suc, ◌+◌, ◌-◌, ◌%◌, ◌<◌, ◌≤◌, Bool, true, false, ◌&&◌, nat_le, List, [], ◌∷◌, ◌++◌, ◌⊎◌, inl, inr, refl, sym, ◌∙◌, ap, arith}
+use Rattle.std.proofs.Common.{◌≡◌, ℕ, zero, suc, ◌+◌, ◌-◌, ◌%◌, ◌<◌, ◌≤◌, Bool, true, false, ◌&&◌, nat_le, List, [], ◌∷◌, ◌++◌, ◌⊎◌, inl, inr, sym, ◌∙◌, ap, subst, arith}
+use Rattle.std.specs.List.{AllByRecursion}
 use Rattle.std.proofs.lemmas.Bool.{cond-true, cond-false, and_parts, and_from, and_right, leb-true, leb-false, le-leb, cases_Bool, and_cases, false_from_ne_true}
 use Rattle.num_range.specs.declared.space.Space.{Space}
 use Rattle.num_range.specs.Space.{width_of}
@@ -72,19 +73,19 @@ place-second space deepest left len start h = record {
   (size_is_multiple space (len + 1) (len + 1) (omega arith));
 }
 
--- a block of some length lies in the block of a lesser one, and starts at a multiple of the smallest size
+-- a block of some length lies in the block of a lesser one, and starts at a multiple of its own size
 pub record IsWithin (space : Space) (deepest len start k at : ℕ) : Type 0 where
   pub deep : k ≤ deepest
   pub after : start ≤ at
   pub before : at + block_size space k ≤ start + block_size space len
-  pub aligned : at % block_size space deepest ≡ 0
+  pub aligned : at % block_size space k ≡ 0
 
 within-self : (space : Space) (deepest left len start : ℕ) → IsPlace space deepest left len start → IsWithin space deepest len start len start
 within-self space deepest left len start h = record {
   deep = omega arith;
   after = omega arith;
   before = omega arith;
-  aligned = multiple_of_longer space start len deepest (omega arith) h.aligned;
+  aligned = h.aligned;
 }
 
 within-first : (space : Space) (deepest len start k at : ℕ) → len < width_of space → IsWithin space deepest (len + 1) start k at
@@ -201,4 +202,38 @@ blocks-agree asked r first last deepest (suc left) len start place agree =
           (blocks-agree asked r first last deepest left (len + 1) middle (place-second r.space deepest left len start place)
           (λ k at h. agree k at (within-second r.space deepest len start k at lt h)))
           ∙ sym (blocks-halves asked other deepest left len start place (sym same ∙ outside))
+    ]
+
+-- ---- what is true of each block found
+
+pub All-append : (P : PlainRange → Type 0) (bs cs : List PlainRange) → AllByRecursion P bs → AllByRecursion P cs → AllByRecursion P (bs ++ cs)
+All-append P [] cs hb hc = hc
+All-append P (b ∷ bs) cs hb hc = (hb.0, All-append P bs cs hb.1 hc)
+
+pub blocks-all : (P : PlainRange → Type 0) (asked : ℕ → Bool) (r : PlainRange) (deepest left len start : ℕ) → IsPlace r.space deepest left len start
+    → ((k at : ℕ) → IsWithin r.space deepest len start k at → asked k ≡ true → is_inside r k at ≡ true → P (block_of r.space at k))
+    → AllByRecursion P (blocks_inside asked r left len start)
+blocks-all P asked r deepest zero len start place each =
+    elim (cases_Bool (asked len && is_inside r len start)) [
+      | inl taken ↦
+          let both = and_parts (asked len) (is_inside r len start) taken in
+          subst (AllByRecursion P) (sym (blocks-whole asked r zero len start taken))
+          (each len start (within-self r.space deepest zero len start place) both.0 both.1, tt)
+      | inr outside ↦ subst (AllByRecursion P) (sym (blocks-end asked r len start outside)) tt
+    ]
+blocks-all P asked r deepest (suc left) len start place each =
+    let lt : len < width_of r.space = omega arith in
+    let middle : ℕ = start + block_size r.space (len + 1) in
+    elim (cases_Bool (asked len && is_inside r len start)) [
+      | inl taken ↦
+          let both = and_parts (asked len) (is_inside r len start) taken in
+          subst (AllByRecursion P) (sym (blocks-whole asked r (suc left) len start taken))
+          (each len start (within-self r.space deepest (suc left) len start place) both.0 both.1, tt)
+      | inr outside ↦
+          subst (AllByRecursion P) (sym (blocks-halves asked r deepest left len start place outside))
+          (All-append P (blocks_inside asked r left (len + 1) start) (blocks_inside asked r left (len + 1) middle)
+          (blocks-all P asked r deepest left (len + 1) start (place-first r.space deepest left len start place)
+          (λ k at h. each k at (within-first r.space deepest len start k at lt h)))
+          (blocks-all P asked r deepest left (len + 1) middle (place-second r.space deepest left len start place)
+          (λ k at h. each k at (within-second r.space deepest len start k at lt h))))
     ]

@@ -4,3 +4,5 @@ pub mod Greedy
 pub mod Bits
 pub mod FrontBits
 pub mod Cutting
+pub mod Covering
+pub mod Least

@@ -5,6 +5,7 @@
 mod cover_walk;
 mod cut_walk;
 mod front;
+pub mod laws;
 
 pub use cover_walk::{CoverWalk, cover};
 pub use cut_walk::{CutWalk, cuts};
