@@ -1,12 +1,12 @@
 -- The least cover of a range holds the range's numbers and no others, and rises.
-use Rattle.std.proofs.Common.{◌≡◌, ℕ, zero, suc, ◌+◌, ◌-◌, ◌%◌, ◌^◌, ◌<◌, ◌≤◌, Bool, true, false, ◌&&◌, List, [], ◌∷◌, ◌++◌, ◌⊎◌, inl, inr, ◌↔◌, refl, sym, ◌∙◌, ap, subst, arith}
+use Rattle.std.proofs.Common.{◌≡◌, ℕ, zero, suc, ◌+◌, ◌-◌, ◌^◌, ◌<◌, ◌≤◌, Bool, true, ◌&&◌, List, [], ◌∷◌, ◌++◌, inl, inr, refl, sym, ◌∙◌, ap, subst, arith}
 use Rattle.std.specs.List.{AllByRecursion}
-use Rattle.std.proofs.lemmas.Bool.{cases_Bool, cases_lt, both_ways}
+use Rattle.std.proofs.lemmas.Bool.{cases_Bool, cases_lt}
 use Rattle.num_range.specs.declared.space.Space.{Space}
-use Rattle.num_range.specs.Space.{width_of, top_of}
+use Rattle.num_range.specs.Space.{width_of}
 use Rattle.num_range.specs.Number.{PlainNumber}
 use Rattle.num_range.specs.Range.{PlainRange, IsRange, Holds, IsInside}
-use Rattle.num_range.specs.Block.{block_size, block_of, IsBlockStart}
+use Rattle.num_range.specs.Block.{block_size, IsBlockStart}
 use Rattle.num_range.specs.Cover.{blocks_inside, least_cover}
 use Rattle.num_range.proofs.BlockEnds.{top-below}
 use Rattle.cidr_cover.specs.Blocks.{IsBlock, SomeHolds, IsCoverOf, RisesFrom}
@@ -136,11 +136,11 @@ least_cover-exact r range =
     let place = place-whole r.space deepest (omega arith) in
     record {
       blocks = blocks-all IsBlock each r deepest deepest 0 0 place
-      (λ k at within _ _. record { length = k; starts = block-within r.space deepest k at (omega arith) within; is_block = refl });
+          (λ k at within _ _. record { length = k; starts = block-within r.space deepest k at (omega arith) within; is_block = refl });
       exact = λ n. (
         held_inside r (blocks_inside each r deepest 0 0) n
-        (blocks-all (λ b. IsInside b r) each r deepest deepest 0 0 place
-        (λ k at within _ inside. let parts = inside_parts r k at inside in (refl, parts.0, parts.1))),
+            (blocks-all (λ b. IsInside b r) each r deepest deepest 0 0 place
+            (λ k at within _ inside. let parts = inside_parts r k at inside in (refl, parts.0, parts.1))),
         λ holds. blocks-hold r deepest 0 0 n place holds (omega arith) (omega arith),
       );
     }

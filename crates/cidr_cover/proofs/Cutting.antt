@@ -1,5 +1,5 @@
 -- The cuts of a range that starts where a cut may, and of one that doesn't.
-use Rattle.std.proofs.Common.{◌≡◌, ℕ, ◌+◌, ◌-◌, ◌%◌, ◌<◌, ◌≤◌, Bool, true, false, ◌&&◌, ◌||◌, nat_le, ◌==◌, List, [], ◌∷◌, ◌⊎◌, inl, inr, ◌↔◌, Option, None, Some, IsSome, IfSome, refl, sym, ◌∙◌, ap, subst, arith}
+use Rattle.std.proofs.Common.{◌≡◌, ℕ, ◌+◌, ◌-◌, ◌%◌, ◌<◌, ◌≤◌, true, ◌&&◌, nat_le, ◌==◌, [], ◌∷◌, inl, inr, ◌↔◌, Option, None, Some, IsSome, IfSome, refl, sym, ◌∙◌, ap, arith}
 use Rattle.std.specs.Int.{next_multiple_of}
 use Rattle.std.specs.Option.{option_map_or}
 use Rattle.std.proofs.lemmas.Bool.{and_parts, or_cases, leb-true, le-leb, lt-leb, eqb-true, cases_lt, false≢true}
@@ -8,12 +8,12 @@ use Rattle.num_range.specs.declared.space.Space.TheVariants.{Asn, Ipv4, Ipv6}
 use Rattle.num_range.specs.Space.{width_of, top_of}
 use Rattle.num_range.specs.Range.{PlainRange, IsRange}
 use Rattle.num_range.specs.Block.{block_size, block_of}
-use Rattle.num_range.specs.Cover.{blocks_inside, is_cut_length, longest_cut, reverse_cuts}
+use Rattle.num_range.specs.Cover.{is_cut_length, longest_cut, reverse_cuts}
 use Rattle.num_range.proofs.BlockEnds.{top-below}
 use Rattle.cidr_cover.specs.Front.{IsFrontBlock, behind_front}
 use Rattle.cidr_cover.proofs.Sizes.{size_pos, size_of_whole, size_falls, multiples_apart, next_multiple, multiple_of_longer}
-use Rattle.cidr_cover.proofs.Halving.{is_inside, inside_parts, blocks-none, blocks-empty, with_ends, blocks-agree}
-use Rattle.cidr_cover.proofs.Greedy.{IsFront, place-whole, blocks-step}
+use Rattle.cidr_cover.proofs.Halving.{inside_parts, blocks-none, blocks-empty, with_ends, blocks-agree}
+use Rattle.cidr_cover.proofs.Greedy.{place-whole, blocks-step}
 
 pub longest_cut_within : (space : Space) → longest_cut space ≤ width_of space
 longest_cut_within Asn = omega arith

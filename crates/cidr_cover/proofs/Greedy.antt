@@ -1,5 +1,5 @@
 -- The blocks inside a range are the widest one at its front, and then those of what is behind that.
-use Rattle.std.proofs.Common.{◌≡◌, ℕ, zero, suc, ◌+◌, ◌-◌, ◌%◌, ◌<◌, ◌≤◌, Bool, true, false, ◌&&◌, nat_le, List, [], ◌∷◌, ◌++◌, ◌⊎◌, inl, inr, refl, Option, None, Some, nat_lt, sym, ◌∙◌, ap, subst, arith}
+use Rattle.std.proofs.Common.{◌≡◌, ℕ, zero, suc, ◌+◌, ◌-◌, ◌%◌, ◌<◌, ◌≤◌, Bool, true, ◌&&◌, nat_le, List, [], ◌∷◌, ◌++◌, inl, inr, refl, None, Some, nat_lt, sym, ◌∙◌, ap, subst, arith}
 use Rattle.std.proofs.lemmas.Bool.{and_parts, and_from, le-leb, lt-ltb, le-ltb, cond-true, cond-false, cases_lt, false_from_ne_true}
 use Rattle.std.proofs.Math.Nat.{zero-mod}
 use Rattle.std.specs.Option.{option_map_or}
@@ -11,7 +11,7 @@ use Rattle.num_range.specs.Cover.{blocks_inside, least_cover}
 use Rattle.num_range.proofs.BlockEnds.{top-below}
 use Rattle.cidr_cover.specs.Front.{IsFrontBlock, behind_front}
 use Rattle.cidr_cover.proofs.Sizes.{size_pos, size_halves, multiples_apart, multiple_of_longer, size_of_whole, size_is_multiple}
-use Rattle.cidr_cover.proofs.Halving.{is_inside, inside_from, inside_parts, IsPlace, place-first, place-second, IsWithin, blocks-whole, blocks-beside, blocks-empty, blocks-halves, with_ends, blocks-agree}
+use Rattle.cidr_cover.proofs.Halving.{is_inside, inside_from, inside_parts, IsPlace, place-first, place-second, blocks-whole, blocks-beside, blocks-empty, blocks-halves, with_ends, blocks-agree}
 
 -- the block of this length is the widest asked one at the range's front
 pub record IsFront (asked : ℕ → Bool) (r : PlainRange) (deepest n : ℕ) : Type 0 where

@@ -1,7 +1,7 @@
 -- What halving finds in the block of a length that starts at a number.
 use Rattle.std.proofs.Common.{◌≡◌, ℕ, zero, suc, ◌+◌, ◌-◌, ◌%◌, ◌<◌, ◌≤◌, Bool, true, false, ◌&&◌, nat_le, List, [], ◌∷◌, ◌++◌, ◌⊎◌, inl, inr, sym, ◌∙◌, ap, subst, arith}
 use Rattle.std.specs.List.{AllByRecursion}
-use Rattle.std.proofs.lemmas.Bool.{cond-true, cond-false, and_parts, and_from, and_right, leb-true, leb-false, le-leb, cases_Bool, and_cases, false_from_ne_true}
+use Rattle.std.proofs.lemmas.Bool.{cond-true, cond-false, and_parts, and_from, leb-true, leb-false, le-leb, cases_Bool, and_cases, false_from_ne_true}
 use Rattle.num_range.specs.declared.space.Space.{Space}
 use Rattle.num_range.specs.Space.{width_of}
 use Rattle.num_range.specs.Range.{PlainRange}
@@ -69,8 +69,8 @@ place-second space deepest left len start h = record {
   levels = omega arith;
   fits = h.fits;
   aligned =
-  sum_of_multiples start (block_size space (len + 1)) (block_size space (len + 1)) (place-first space deepest left len start h).aligned
-  (size_is_multiple space (len + 1) (len + 1) (omega arith));
+      sum_of_multiples start (block_size space (len + 1)) (block_size space (len + 1)) (place-first space deepest left len start h).aligned
+      (size_is_multiple space (len + 1) (len + 1) (omega arith));
 }
 
 -- a block of some length lies in the block of a lesser one, and starts at a multiple of its own size

@@ -1,14 +1,13 @@
 -- No list of blocks with a range's numbers is shorter than its least cover.
-use Rattle.std.proofs.Common.{◌≡◌, ℕ, zero, suc, ◌+◌, ◌-◌, ◌%◌, ◌<◌, ◌≤◌, Bool, true, false, ◌&&◌, nat_lt, nat_le, if◌then◌else◌, List, [], ◌∷◌, ◌++◌, length, ◌⊎◌, inl, inr, refl, sym, ◌∙◌, ap, subst, arith}
+use Rattle.std.proofs.Common.{◌≡◌, ℕ, zero, suc, ◌+◌, ◌-◌, ◌%◌, ◌<◌, ◌≤◌, Bool, false, ◌&&◌, nat_lt, nat_le, if◌then◌else◌, List, [], ◌∷◌, length, ◌⊎◌, inl, inr, refl, sym, ap, subst, arith}
 use Rattle.std.specs.List.{AllByRecursion}
 use Rattle.std.proofs.lemmas.List.{length-append}
 use Rattle.std.proofs.lemmas.Bool.Decides.{nat_tests}
-use Rattle.std.proofs.lemmas.Bool.{cases_Bool, cases_lt, both_ways, and_from, and_parts, cond-true, cond-false, le-leb, leb-true, lt-ltb, ltb-true, cond_both, true_from_ne_false}
-use Rattle.num_range.specs.declared.space.Space.{Space}
-use Rattle.num_range.specs.Space.{width_of, top_of}
+use Rattle.std.proofs.lemmas.Bool.{cases_Bool, cases_lt, both_ways, and_from, cond-true, le-leb, lt-ltb, cond_both}
+use Rattle.num_range.specs.Space.{width_of}
 use Rattle.num_range.specs.Number.{PlainNumber}
-use Rattle.num_range.specs.Range.{PlainRange, IsRange, Holds, IsInside}
-use Rattle.num_range.specs.Block.{block_size, block_of}
+use Rattle.num_range.specs.Range.{PlainRange, IsRange, Holds}
+use Rattle.num_range.specs.Block.{block_size}
 use Rattle.num_range.specs.Cover.{blocks_inside, least_cover}
 use Rattle.num_range.proofs.BlockEnds.{top-below}
 use Rattle.cidr_cover.specs.Blocks.{IsBlock, SomeHolds, IsCoverOf}
@@ -179,8 +178,7 @@ blocks-in r (b ∷ bs) blocks inside =
     let last : b.last ≡ b.first + (block_size b.space len - 1) = ap (λ (c : PlainRange). c.last) blocks.0.is_block in
     let at_first = inside (record { space = b.space; value = b.first }) (inl (refl, omega arith, omega arith)) in
     let at_last = inside (record { space = b.space; value = b.last }) (inl (refl, omega arith, omega arith)) in
-    let space : b.space ≡ r.space = sym at_first.0 in
-    (
+    let space : b.space ≡ r.space = sym at_first.0 in (
       record {
         length = len;
         of_space = at_first.0;

@@ -43,7 +43,10 @@ pub fn split_front(r: &Range, len: u32) -> (Range, Option<Range>)
 {
     let block = masked(Number::of(r.space(), r.first()), len);
     if block.last() < r.last() {
-        (block, Some(Range::between(r.space(), block.last() + 1, r.last())))
+        (
+            block,
+            Some(Range::between(r.space(), block.last() + 1, r.last())),
+        )
     } else {
         (block, None)
     }

@@ -1,11 +1,8 @@
-use Rattle.std.proofs.Common.{◌≡◌, ◌<◌, ◌∙◌, ap, sym, arith}
-use Rattle.std.specs.Int.{next_multiple_of}
-use Rattle.std.specs.Option.{option_map_or}
-use Rattle.num_range.specs.Cover.{longest_cut, reverse_cuts}
-use Rattle.num_range.specs.Block.{block_size}
+use Rattle.std.proofs.Common.{arith}
+use Rattle.num_range.specs.Cover.{longest_cut}
 use Rattle.num_range.proofs.BlockEnds.{top_fits}
 use Rattle.cidr_cover.proofs.Sizes.{size_pos}
-use Rattle.cidr_cover.proofs.Cutting.{cut_start, reverse_cuts-past, reverse_cuts-from}
+use Rattle.cidr_cover.proofs.Cutting.{reverse_cuts-past, reverse_cuts-from}
 use Rattle.cidr_cover.proofs.cut_walk.from_cut_start.Goals as goal
 
 pub returns-in_err-first-clause-same_cuts : goal.returns-in_err-first-clause-same_cuts

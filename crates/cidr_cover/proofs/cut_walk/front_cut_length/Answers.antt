@@ -1,5 +1,3 @@
-use Rattle.std.proofs.Common.{IfSome, ◌≡◌, true}
-use Rattle.num_range.specs.Cover.{is_cut_length}
 use Rattle.cidr_cover.proofs.Cutting.{front-cut}
 use Rattle.cidr_cover.proofs.cut_walk.front_cut_length.Goals as goal
 

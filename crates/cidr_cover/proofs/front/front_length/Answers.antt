@@ -1,4 +1,4 @@
-use Rattle.std.proofs.Common.{◌≡◌, ◌∙◌, ap, sym, arith}
+use Rattle.std.proofs.Common.{◌≡◌, ◌∙◌, ap, arith}
 use Rattle.num_range.specs.Space.{width_of}
 use Rattle.cidr_cover.proofs.FrontBits.{size_bits_within, front_fits, front_widest}
 use Rattle.cidr_cover.proofs.front.front_length.Goals as goal

@@ -1,4 +1,4 @@
-use Rattle.std.proofs.Common.{rules, ◌≡◌, ◌∙◌, sym, ap, []}
+use Rattle.std.proofs.Common.{rules, ◌∙◌, sym, ap, []}
 use Rattle.std.specs.Option.{option_map_or}
 use Rattle.num_range.specs.Cover.{least_cover}
 use Rattle.cidr_cover.proofs.Greedy.{least_cover-front}
