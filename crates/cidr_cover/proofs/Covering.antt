@@ -1,6 +1,7 @@
 -- The least cover of a range holds the range's numbers and no others, and rises.
-use Rattle.std.proofs.Common.{◌≡◌, ℕ, zero, suc, ◌+◌, ◌-◌, ◌^◌, ◌<◌, ◌≤◌, Bool, true, ◌&&◌, List, [], ◌∷◌, ◌++◌, inl, inr, refl, sym, ◌∙◌, ap, subst, arith}
-use Rattle.std.specs.List.{AllByRecursion}
+use Rattle.std.proofs.Common.{◌≡◌, ℕ, zero, suc, ◌+◌, ◌-◌, ◌^◌, ◌<◌, ◌≤◌, Bool, true, ◌&&◌, List, [], ◌∷◌, ◌++◌, ◌⊎◌, inl, inr, length, slice_index_or, refl, sym, ◌∙◌, ap, subst, arith}
+use Rattle.std.specs.List.{AllByRecursion, Any}
+use Rattle.std.proofs.lemmas.List.Elements.{All-from_recursion}
 use Rattle.std.proofs.lemmas.Bool.{cases_Bool, cases_lt}
 use Rattle.num_range.specs.declared.space.Space.{Space}
 use Rattle.num_range.specs.Space.{width_of}
@@ -9,15 +10,36 @@ use Rattle.num_range.specs.Range.{PlainRange, IsRange, Holds, IsInside}
 use Rattle.num_range.specs.Block.{block_size, IsBlockStart}
 use Rattle.num_range.specs.Cover.{blocks_inside, least_cover}
 use Rattle.num_range.proofs.BlockEnds.{top-below}
-use Rattle.cidr_cover.specs.Blocks.{IsBlock, SomeHolds, IsCoverOf, RisesFrom}
+use Rattle.cidr_cover.specs.Blocks.{IsBlock, IsCoverOf, IsRising}
 use Rattle.cidr_cover.proofs.Sizes.{size_pos, size_halves, size_of_whole}
-use Rattle.cidr_cover.proofs.Halving.{is_inside, inside_from, inside_parts, IsPlace, place-first, place-second, IsWithin, blocks-whole, blocks-end, blocks-halves, blocks-all}
+use Rattle.cidr_cover.proofs.Halving.{is_inside, inside_from, inside_parts, IsPlace, place-first, place-second, IsWithin, blocks-whole, blocks-end, blocks-halves, not-held-whole, blocks-all}
 use Rattle.cidr_cover.proofs.Greedy.{place-whole}
 
 abbrev pub each : ℕ → Bool
 each len = true
 
 -- ---- the numbers
+
+-- one of the ranges holds the number
+abbrev pub SomeHolds : List PlainRange → PlainNumber → Type 0
+SomeHolds [] n = ⊥
+SomeHolds (b ∷ bs) n = Holds b n ⊎ SomeHolds bs n
+
+some-at : (bs : List PlainRange) (n : PlainNumber) (k : ℕ) (b : PlainRange) → k < length bs → slice_index_or bs k b ≡ b → Holds b n → SomeHolds bs n
+some-at [] n k b h is holds = absurd (omega arith)
+some-at (c ∷ cs) n zero b h is holds = inl (subst (λ d. Holds d n) (sym is) holds)
+some-at (c ∷ cs) n (suc k) b h is holds = inr (some-at cs n k b (omega arith) is holds)
+
+pub some-from_any : (bs : List PlainRange) (n : PlainNumber) → Any (λ b. Holds b n) bs → SomeHolds bs n
+some-from_any bs n any = some-at bs n any.0 any.1 any.2 any.3 any.4
+
+pub any-from_some : (bs : List PlainRange) (n : PlainNumber) → SomeHolds bs n → Any (λ b. Holds b n) bs
+any-from_some [] n h = absurd h
+any-from_some (b ∷ bs) n h =
+    elim h [
+      | inl here ↦ (0, b, omega arith, refl, here)
+      | inr there ↦ let any = any-from_some bs n there in (suc any.0, any.1, omega arith, any.3, any.4)
+    ]
 
 holds_left : (bs cs : List PlainRange) (n : PlainNumber) → SomeHolds bs n → SomeHolds (bs ++ cs) n
 holds_left [] cs n h = absurd h
@@ -81,10 +103,20 @@ unfolding RisesTo
 rises-append low middle high [] cs hb hc = rises-lower low middle high cs hb hc
 rises-append low middle high (b ∷ bs) cs hb hc = (hb.0, hb.1, rises-append (b.last + 1) middle high bs cs hb.2 hc)
 
-rises-from : (low high : ℕ) (bs : List PlainRange) → RisesTo low high bs → RisesFrom low bs
+-- each of them starts at or above the lower bound
+rises-above : (low high : ℕ) (bs : List PlainRange) (k : ℕ) (d : PlainRange) → RisesTo low high bs → k < length bs → low ≤ (slice_index_or bs k d).first
 unfolding RisesTo
-rises-from low high [] h = tt
-rises-from low high (b ∷ bs) h = (h.0, h.1, rises-from (b.last + 1) high bs h.2)
+rises-above low high [] k d rises h = absurd (omega arith)
+rises-above low high (b ∷ bs) zero d rises h = rises.0
+rises-above low high (b ∷ bs) (suc k) d rises h = let above = rises-above (b.last + 1) high bs k d rises.2 (omega arith) in omega arith
+
+rises-pairs : (low high : ℕ) (bs : List PlainRange) (i j : ℕ) (d : PlainRange) → RisesTo low high bs → i < j → j < length bs
+    → (slice_index_or bs i d).last < (slice_index_or bs j d).first
+unfolding RisesTo
+rises-pairs low high [] i j d rises lt h = absurd (omega arith)
+rises-pairs low high (b ∷ bs) i zero d rises lt h = absurd (omega arith)
+rises-pairs low high (b ∷ bs) zero (suc j) d rises lt h = let above = rises-above (b.last + 1) high bs j d rises.2 (omega arith) in omega arith
+rises-pairs low high (b ∷ bs) (suc i) (suc j) d rises lt h = rises-pairs (b.last + 1) high bs i j d rises.2 (omega arith) (omega arith)
 
 blocks-rise : (asked : ℕ → Bool) (r : PlainRange) (deepest left len start : ℕ) → IsPlace r.space deepest left len start
     → RisesTo start (start + block_size r.space len) (blocks_inside asked r left len start)
@@ -118,7 +150,7 @@ blocks-rise asked r deepest (suc left) len start place =
 
 -- ---- the least cover
 
-block-within : (space : Space) (deepest k at : ℕ) → deepest ≤ width_of space → IsWithin space deepest 0 0 k at → IsBlockStart space at k
+pub block-within : (space : Space) (deepest k at : ℕ) → deepest ≤ width_of space → IsWithin space deepest 0 0 k at → IsBlockStart space at k
 block-within space deepest k at h within =
     let whole = size_of_whole space in
     let top = top-below space in
@@ -127,6 +159,12 @@ block-within space deepest k at h within =
     let deep = within.deep in
     (omega arith, omega arith, within.aligned)
 
+pub blocks-are_rising : (asked : ℕ → Bool) (r : PlainRange) (deepest : ℕ) → deepest ≤ width_of r.space → IsRising (blocks_inside asked r deepest 0 0)
+blocks-are_rising asked r deepest h =
+    λ i j d lt within.
+    rises-pairs 0 (0 + block_size r.space 0) (blocks_inside asked r deepest 0 0) i j d
+    (blocks-rise asked r deepest deepest 0 0 (place-whole r.space deepest h)) lt within
+
 pub least_cover-exact : (r : PlainRange) → IsRange r → IsCoverOf r (least_cover r)
 unfolding least_cover
 least_cover-exact r range =
@@ -134,20 +172,20 @@ least_cover-exact r range =
     let whole = size_of_whole r.space in
     let top = top-below r.space in
     let place = place-whole r.space deepest (omega arith) in
+    let found = blocks_inside each r deepest 0 0 in
     record {
-      blocks = blocks-all IsBlock each r deepest deepest 0 0 place
-          (λ k at within _ _. record { length = k; starts = block-within r.space deepest k at (omega arith) within; is_block = refl });
+      blocks = All-from_recursion IsBlock found
+          (blocks-all IsBlock each r deepest deepest 0 0 place (not-held-whole each r)
+          (λ k at within _ _ _. record { length = k; starts = block-within r.space deepest k at (omega arith) within; is_block = refl }));
       exact = λ n. (
-        held_inside r (blocks_inside each r deepest 0 0) n
-            (blocks-all (λ b. IsInside b r) each r deepest deepest 0 0 place
-            (λ k at within _ inside. let parts = inside_parts r k at inside in (refl, parts.0, parts.1))),
-        λ holds. blocks-hold r deepest 0 0 n place holds (omega arith) (omega arith),
+        λ any. held_inside r found n
+            (blocks-all (λ b. IsInside b r) each r deepest deepest 0 0 place (not-held-whole each r)
+            (λ k at within _ inside _. let parts = inside_parts r k at inside in (refl, parts.0, parts.1)))
+            (some-from_any found n any),
+        λ holds. any-from_some found n (blocks-hold r deepest 0 0 n place holds (omega arith) (omega arith)),
       );
     }
 
-pub least_cover-rises : (r : PlainRange) → IsRange r → RisesFrom 0 (least_cover r)
+pub least_cover-rises : (r : PlainRange) → IsRange r → IsRising (least_cover r)
 unfolding least_cover
-least_cover-rises r range =
-    let deepest : ℕ = width_of r.space in
-    rises-from 0 (0 + block_size r.space 0) (blocks_inside each r deepest 0 0)
-    (blocks-rise each r deepest deepest 0 0 (place-whole r.space deepest (omega arith)))
+least_cover-rises r range = blocks-are_rising each r (width_of r.space) (omega arith)

@@ -1,5 +1,5 @@
 -- The cuts of a range that starts where a cut may, and of one that doesn't.
-use Rattle.std.proofs.Common.{◌≡◌, ℕ, ◌+◌, ◌-◌, ◌%◌, ◌<◌, ◌≤◌, true, ◌&&◌, nat_le, ◌==◌, [], ◌∷◌, inl, inr, ◌↔◌, Option, None, Some, IsSome, IfSome, refl, sym, ◌∙◌, ap, arith}
+use Rattle.std.proofs.Common.{◌≡◌, ℕ, ◌+◌, ◌-◌, ◌%◌, ◌<◌, ◌≤◌, true, ◌&&◌, nat_le, ◌==◌, [], ◌∷◌, subst, inl, inr, ◌↔◌, Option, None, Some, IsSome, IfSome, refl, sym, ◌∙◌, ap, arith}
 use Rattle.std.specs.Int.{next_multiple_of}
 use Rattle.std.specs.Option.{option_map_or}
 use Rattle.std.proofs.lemmas.Bool.{and_parts, or_cases, leb-true, le-leb, lt-leb, eqb-true, cases_lt, false≢true}
@@ -8,12 +8,17 @@ use Rattle.num_range.specs.declared.space.Space.TheVariants.{Asn, Ipv4, Ipv6}
 use Rattle.num_range.specs.Space.{width_of, top_of}
 use Rattle.num_range.specs.Range.{PlainRange, IsRange}
 use Rattle.num_range.specs.Block.{block_size, block_of}
-use Rattle.num_range.specs.Cover.{is_cut_length, longest_cut, reverse_cuts}
+use Rattle.num_range.specs.Cover.{blocks_inside, is_cut_length, longest_cut, reverse_cuts}
 use Rattle.num_range.proofs.BlockEnds.{top-below}
 use Rattle.cidr_cover.specs.Front.{IsFrontBlock, behind_front}
 use Rattle.cidr_cover.proofs.Sizes.{size_pos, size_of_whole, size_falls, multiples_apart, next_multiple, multiple_of_longer}
-use Rattle.cidr_cover.proofs.Halving.{inside_parts, blocks-none, blocks-empty, with_ends, blocks-agree}
-use Rattle.cidr_cover.proofs.Greedy.{place-whole, blocks-step}
+use Rattle.cidr_cover.proofs.Halving.{is_inside, inside_from, inside_parts, IsWithin, IsNotHeld, not-held-whole, blocks-none, blocks-empty, blocks-all, blocks-contain, with_ends, blocks-agree}
+use Rattle.cidr_cover.proofs.Greedy.{place-whole, block-ends, blocks-step}
+use Rattle.cidr_cover.proofs.Covering.{block-within, blocks-are_rising}
+use Rattle.cidr_cover.specs.Blocks.{IsRising}
+use Rattle.cidr_cover.specs.Cuts.{IsReverseCut}
+use Rattle.std.specs.List.{Contains}
+use Rattle.std.proofs.lemmas.List.Elements.{All-from_recursion, All-contains}
 
 pub longest_cut_within : (space : Space) → longest_cut space ≤ width_of space
 longest_cut_within Asn = omega arith
@@ -132,3 +137,73 @@ reverse_cuts-from r None range fits is =
       | inr within ↦ absurd (false≢true (fits.1 (within, range.1)))
     ]
 reverse_cuts-from r (Some s) range fits is = cuts-from r ∙ ap reverse_cuts (sym is)
+
+-- ---- which blocks are cuts
+
+cut-is : (r : PlainRange) (k at : ℕ) → IsWithin r.space (longest_cut r.space) 0 0 k at → is_cut_length r.space k ≡ true → is_inside r k at ≡ true
+    → IsNotHeld (is_cut_length r.space) r k at → IsReverseCut r (block_of r.space at k)
+cut-is r k at within is_asked inside clear =
+    let parts = inside_parts r k at inside in
+    let pos = size_pos r.space k in
+    record {
+      length = k;
+      is_cut = record {
+        cut_length = is_asked;
+        starts = block-within r.space (longest_cut r.space) k at (longest_cut_within r.space) within;
+        is_block = refl;
+        inside = (refl, parts.0, parts.1);
+      };
+      widest = λ wider shorter lt cut h.
+          let last : wider.last ≡ wider.first + (block_size r.space shorter - 1) = ap (λ (b : PlainRange). b.last) cut.is_block in
+          let size = size_pos r.space shorter in
+          clear shorter wider.first lt cut.cut_length cut.starts.2
+          (inside_from r shorter wider.first cut.inside.1 (let high = cut.inside.2 in omega arith))
+          h.1 (let end = h.2 in omega arith);
+    }
+
+cut-found : (r b : PlainRange) → IsReverseCut r b → Contains (reverse_cuts r) b
+unfolding reverse_cuts
+cut-found r b is_cut =
+    let longest : ℕ = longest_cut r.space in
+    let len : ℕ = is_cut.length in
+    let cut = is_cut.is_cut in
+    let starts = cut.starts in
+    let pos = size_pos r.space len in
+    let last : b.last ≡ b.first + (block_size r.space len - 1) = ap (λ (c : PlainRange). c.last) cut.is_block in
+    subst (Contains (reverse_cuts r)) (sym cut.is_block)
+    (blocks-contain (is_cut_length r.space) r longest longest 0 0 len b.first (place-whole r.space longest (longest_cut_within r.space))
+    cut.cut_length
+    (inside_from r len b.first cut.inside.1 (let high = cut.inside.2 in omega arith))
+    (λ k at shorter is_asked aligned inside low high.
+    let parts = inside_parts r k at inside in
+    let size = size_pos r.space k in
+    let wide = longest_cut_within r.space in
+    let top = starts.1 in
+    is_cut.widest (block_of r.space at k) k shorter
+    (record { cut_length = is_asked; starts = (omega arith, omega arith, aligned); is_block = refl; inside = (refl, parts.0, parts.1) })
+    (sym (ap (λ (c : PlainRange). c.space) (sym cut.is_block)), low, omega arith))
+    (record {
+      deep = cut_length_within r.space len cut.cut_length;
+      after = omega arith;
+      before = let ends = block-ends r.space len b.first starts in omega arith;
+      aligned = starts.2;
+    })
+    (omega arith))
+
+pub reverse_cuts-are : (r b : PlainRange) → IsRange r → Contains (reverse_cuts r) b ↔ IsReverseCut r b
+unfolding reverse_cuts
+reverse_cuts-are r b range =
+    let longest : ℕ = longest_cut r.space in
+    let found = blocks_inside (is_cut_length r.space) r longest 0 0 in (
+      λ h.
+          All-contains (IsReverseCut r) found b
+          (All-from_recursion (IsReverseCut r) found
+          (blocks-all (IsReverseCut r) (is_cut_length r.space) r longest longest 0 0 (place-whole r.space longest (longest_cut_within r.space))
+          (not-held-whole (is_cut_length r.space) r) (cut-is r)))
+          h,
+      cut-found r b,
+    )
+
+pub reverse_cuts-rise : (r : PlainRange) → IsRange r → IsRising (reverse_cuts r)
+unfolding reverse_cuts
+reverse_cuts-rise r range = blocks-are_rising (is_cut_length r.space) r (longest_cut r.space) (longest_cut_within r.space)

@@ -102,7 +102,7 @@ pub place-whole : (space : Space) (deepest : ℕ) → deepest ≤ width_of space
 place-whole space deepest h = record { levels = omega arith; fits = h; aligned = zero-mod (block_size space 0) }
 
 -- an aligned block ends within the space
-block-ends : (space : Space) (len start : ℕ) → IsBlockStart space start len → start + block_size space len ≤ block_size space 0
+pub block-ends : (space : Space) (len start : ℕ) → IsBlockStart space start len → start + block_size space len ≤ block_size space 0
 block-ends space len start h =
     let top = top-below space in
     let whole = size_of_whole space in

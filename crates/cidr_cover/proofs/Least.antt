@@ -2,6 +2,7 @@
 use Rattle.std.proofs.Common.{◌≡◌, ℕ, zero, suc, ◌+◌, ◌-◌, ◌%◌, ◌<◌, ◌≤◌, Bool, false, ◌&&◌, nat_lt, nat_le, if◌then◌else◌, List, [], ◌∷◌, length, ◌⊎◌, inl, inr, refl, sym, ap, subst, arith}
 use Rattle.std.specs.List.{AllByRecursion}
 use Rattle.std.proofs.lemmas.List.{length-append}
+use Rattle.std.proofs.lemmas.List.Elements.{recursion_from_All}
 use Rattle.std.proofs.lemmas.Bool.Decides.{nat_tests}
 use Rattle.std.proofs.lemmas.Bool.{cases_Bool, cases_lt, both_ways, and_from, cond-true, le-leb, lt-ltb, cond_both}
 use Rattle.num_range.specs.Space.{width_of}
@@ -10,11 +11,11 @@ use Rattle.num_range.specs.Range.{PlainRange, IsRange, Holds}
 use Rattle.num_range.specs.Block.{block_size}
 use Rattle.num_range.specs.Cover.{blocks_inside, least_cover}
 use Rattle.num_range.proofs.BlockEnds.{top-below}
-use Rattle.cidr_cover.specs.Blocks.{IsBlock, SomeHolds, IsCoverOf}
+use Rattle.cidr_cover.specs.Blocks.{IsBlock, IsCoverOf}
 use Rattle.cidr_cover.proofs.Sizes.{size_pos, size_halves, size_falls, size_of_whole, multiples_apart, multiple_of_longer}
 use Rattle.cidr_cover.proofs.Halving.{is_inside, inside_from, inside_parts, IsPlace, place-first, place-second, blocks-whole, blocks-end, blocks-halves}
 use Rattle.cidr_cover.proofs.Greedy.{place-whole}
-use Rattle.cidr_cover.proofs.Covering.{each}
+use Rattle.cidr_cover.proofs.Covering.{each, SomeHolds, some-from_any, any-from_some}
 
 -- a block of the list holds numbers of the range alone
 pub record IsBlockIn (r b : PlainRange) : Type 0 where
@@ -203,7 +204,7 @@ pub least_cover-least : (r : PlainRange) (bs : List PlainRange) → IsRange r �
 unfolding least_cover
 least_cover-least r bs range cover =
     let deepest : ℕ = width_of r.space in
-    let all = blocks-in r bs cover.blocks (λ n. (cover.exact n).0) in
-    let few = blocks-fewest r deepest 0 0 bs (place-whole r.space deepest (omega arith)) all (λ n. (cover.exact n).1) (all-within-space r bs range all) in
+    let all = blocks-in r bs (recursion_from_All IsBlock bs cover.blocks) (λ n h. (cover.exact n).0 (any-from_some bs n h)) in
+    let few = blocks-fewest r deepest 0 0 bs (place-whole r.space deepest (omega arith)) all (λ n h. some-from_any bs n ((cover.exact n).1 h)) (all-within-space r bs range all) in
     let most = count-most 0 (0 + block_size r.space 0) bs in
     omega arith
