@@ -186,6 +186,6 @@ least_cover-exact r range =
       );
     }
 
-pub least_cover-rises : (r : PlainRange) → IsRange r → IsRising (least_cover r)
+pub least_cover-rises : (r : PlainRange) → IsRising (least_cover r)
 unfolding least_cover
-least_cover-rises r range = blocks-are_rising each r (width_of r.space) (omega arith)
+least_cover-rises r = blocks-are_rising each r (width_of r.space) (omega arith)

@@ -190,9 +190,9 @@ cut-found r b is_cut =
     })
     (omega arith))
 
-pub reverse_cuts-are : (r b : PlainRange) → IsRange r → Contains (reverse_cuts r) b ↔ IsReverseCut r b
+pub reverse_cuts-are : (r b : PlainRange) → Contains (reverse_cuts r) b ↔ IsReverseCut r b
 unfolding reverse_cuts
-reverse_cuts-are r b range =
+reverse_cuts-are r b =
     let longest : ℕ = longest_cut r.space in
     let found = blocks_inside (is_cut_length r.space) r longest 0 0 in (
       λ h.
@@ -204,6 +204,6 @@ reverse_cuts-are r b range =
       cut-found r b,
     )
 
-pub reverse_cuts-rise : (r : PlainRange) → IsRange r → IsRising (reverse_cuts r)
+pub reverse_cuts-rise : (r : PlainRange) → IsRising (reverse_cuts r)
 unfolding reverse_cuts
-reverse_cuts-rise r range = blocks-are_rising (is_cut_length r.space) r (longest_cut r.space) (longest_cut_within r.space)
+reverse_cuts-rise r = blocks-are_rising (is_cut_length r.space) r (longest_cut r.space) (longest_cut_within r.space)

@@ -6,3 +6,4 @@ pub mod FrontBits
 pub mod Cutting
 pub mod Covering
 pub mod Least
+pub mod Totals

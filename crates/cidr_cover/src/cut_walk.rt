@@ -9,49 +9,6 @@ use crate::front::{front_length, split_front};
 use num_range::{Range, Space};
 use std::marker::Model;
 
-/// The least length of a cut that is no less than this one.
-fn cut_length(space: Space, at_least: u32) -> Option<u32>
-    ensures cut { IfSome result (λ len. is_cut_length space len ≡ true) }
-    ensures no_less { IfSome result (λ len. at_least ≤ len) }
-    ensures least { (len : ℕ) → at_least ≤ len → is_cut_length space len ≡ true → IsSomeAnd result (λ least. least ≤ len) }
-{
-    match space {
-        Space::Ipv4 if at_least <= 16 => Some(16),
-        Space::Ipv4 if at_least <= 24 => Some(24),
-        Space::Ipv6 if at_least <= 64 => Some(at_least.max(16).next_multiple_of(4)),
-        _ => None,
-    }
-}
-
-/// The length of the widest cut at the range's front.
-fn front_cut_length(r: &Range) -> Option<u32>
-    ensures front { IfSome result (λ len. IsFrontBlock r.now len) }
-    ensures cut { IfSome result (λ len. is_cut_length r.now.space len ≡ true) }
-    ensures widest { (len : ℕ) → is_cut_length r.now.space len ≡ true → IsFrontBlock r.now len → IsSomeAnd result (λ least. least ≤ len) }
-{
-    cut_length(r.space(), front_length(r))
-}
-
-/// The size of the smallest cuts.
-fn smallest_cut(r: &Range) -> u128
-    ensures { result ≡ block_size r.now.space (longest_cut r.now.space) }
-{
-    match r.space() {
-        Space::Asn => 1 << 32,
-        Space::Ipv4 => 1 << 8,
-        Space::Ipv6 => 1 << 64,
-    }
-}
-
-/// The range from the first number on at which a cut may start.
-fn from_cut_start(r: &Range) -> Option<Range>
-    ensures same_cuts { reverse_cuts r.now ≡ option_map_or reverse_cuts result [] }
-    ensures starts { IfSome result (λ s. s.first % block_size s.space (longest_cut s.space) ≡ 0) }
-{
-    let first = r.first().checked_next_multiple_of(smallest_cut(r))?;
-    Range::new(r.space(), first, r.last())
-}
-
 /// The reverse cuts of a range that are left, rising.
 #[derive(Drop)]
 pub struct CutWalk {
@@ -91,4 +48,49 @@ impl Iterator for CutWalk {
         self.rest = behind;
         Some(block)
     }
+}
+
+/// The least length of a cut that is no less than this one, or nothing where each is less.
+fn cut_length(space: Space, at_least: u32) -> Option<u32>
+    ensures cut { IfSome result (λ len. is_cut_length space len ≡ true) }
+    ensures no_less { IfSome result (λ len. at_least ≤ len) }
+    ensures least { (len : ℕ) → at_least ≤ len → is_cut_length space len ≡ true
+        → IsSomeAnd result (λ least. least ≤ len) }
+{
+    match space {
+        Space::Ipv4 if at_least <= 16 => Some(16),
+        Space::Ipv4 if at_least <= 24 => Some(24),
+        Space::Ipv6 if at_least <= 64 => Some(at_least.max(16).next_multiple_of(4)),
+        _ => None,
+    }
+}
+
+/// The length of the widest cut at the range's front, or nothing where no cut starts there.
+fn front_cut_length(r: &Range) -> Option<u32>
+    ensures front { IfSome result (λ len. IsFrontBlock r.now len) }
+    ensures cut { IfSome result (λ len. is_cut_length r.now.space len ≡ true) }
+    ensures widest { (len : ℕ) → is_cut_length r.now.space len ≡ true → IsFrontBlock r.now len
+        → IsSomeAnd result (λ least. least ≤ len) }
+{
+    cut_length(r.space(), front_length(r))
+}
+
+/// The size of the smallest cuts of the range's space, of which each cut starts at a multiple. AS numbers have no cuts.
+fn smallest_cut(r: &Range) -> u128
+    ensures { result ≡ block_size r.now.space (longest_cut r.now.space) }
+{
+    match r.space() {
+        Space::Asn => 1 << 32,
+        Space::Ipv4 => 1 << 8,
+        Space::Ipv6 => 1 << 64,
+    }
+}
+
+/// The range from the first of its numbers on at which a cut may start, or nothing where there is none.
+fn from_cut_start(r: &Range) -> Option<Range>
+    ensures same_cuts { reverse_cuts r.now ≡ option_map_or reverse_cuts result [] }
+    ensures starts { IfSome result (λ s. s.first % block_size s.space (longest_cut s.space) ≡ 0) }
+{
+    let first = r.first().checked_next_multiple_of(smallest_cut(r))?;
+    Range::new(r.space(), first, r.last())
 }

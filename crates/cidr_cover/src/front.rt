@@ -35,19 +35,17 @@ pub fn front_length(r: &Range) -> u32
     r.space().width() - bits
 }
 
-/// The block of a length at the range's front, and what is behind it.
+/// The block of this length at the range's front, and what of the range is behind it.
 pub fn split_front(r: &Range, len: u32) -> (Range, Option<Range>)
     requires { IsFrontBlock r.now len }
     ensures block { result.0 ≡ block_of r.now.space r.now.first len }
     ensures behind { result.1 ≡ behind_front r.now len }
 {
     let block = masked(Number::of(r.space(), r.first()), len);
-    if block.last() < r.last() {
-        (
-            block,
-            Some(Range::between(r.space(), block.last() + 1, r.last())),
-        )
+    let behind = if block.last() < r.last() {
+        Some(Range::between(r.space(), block.last() + 1, r.last()))
     } else {
-        (block, None)
-    }
+        None
+    };
+    (block, behind)
 }
