@@ -2,7 +2,7 @@
 use Rattle.std.proofs.Common.{◌≡◌, ℕ, ◌+◌, ◌<◌, ◌≤◌, suc, zero, max, Bool, true, false, ◌&&◌, ◌==◌, nat_lt, nat_le, List, [], ◌∷◌, length, get_or, drop, None, Some, refl, sym, ◌∙◌, ap, subst, inl, inr, arith}
 use Rattle.std.proofs.lemmas.Bool.{cases_Bool, cases_lt, ltb-true, leb-true, le-ltb, lt-ltb, le-leb, lt-leb}
 use Rattle.std.proofs.lemmas.Bool.Decides.{nat_tests}
-use Rattle.std.proofs.lemmas.List.{drop_more, drop_all}
+use Rattle.std.proofs.lemmas.List.{drop_more, drop_all, get_or_default}
 use Rattle.std.proofs.lemmas.List.Sums.{prefix_len_stops}
 use Rattle.std.specs.List.{flat_map}
 use Rattle.num_range.specs.Space.{top_of}
@@ -77,7 +77,7 @@ settled_from (p ∷ ps) zero d h l = h
 settled_from (p ∷ ps) (suc j) d h l = settled_at p ps j d h (omega arith)
 
 -- only where the piece ends and whether it is available matter to those after it
-settled_as : (p q : Piece) (qs : List Piece) → p.range.last ≡ q.range.last → is_available p.card.status ≡ is_available q.card.status → IsSettledAfter q qs → IsSettledAfter p qs
+pub settled_as : (p q : Piece) (qs : List Piece) → p.range.last ≡ q.range.last → is_available p.card.status ≡ is_available q.card.status → IsSettledAfter q qs → IsSettledAfter p qs
 settled_as p q [] e f h = tt
 settled_as p q (x ∷ xs) e f h = (
   ap (λ (n : ℕ). (n + 1 == x.range.first) && is_available p.card.status && is_available x.card.status) e
@@ -127,6 +127,8 @@ nothing_above ps r status to top e all =
       within = omega arith;
       reaches = omega arith;
       top = top;
+      joins = λ d l n. absurd (omega arith);
+      cuts = λ x d e. absurd (cc e);
       laid = λ p l f.
           ap (joined_after p) none
           ∙ ap (λ (q : Piece). q ∷ []) (ending_same p r.last l)
@@ -158,6 +160,8 @@ apart_above ps r status to q top h e l here t past =
       within = omega arith;
       reaches = omega arith;
       top = top;
+      joins = λ d l n. absurd (omega arith);
+      cuts = λ x d e. absurd (cc e);
       laid = λ p m f.
           let no : can_join p (starting_at q (max q.range.first (r.last + 1))) ≡ false = can_join_rest r.last status p q m f ∙ t in
           let apart : joined_after p (starting_at q (max q.range.first (r.last + 1)) ∷ drop (suc to) ps) ≡ p ∷ joined_after q (drop (suc to) ps) =
@@ -181,6 +185,12 @@ cut_above ps r status to q top h e l here t over =
       within = omega arith;
       reaches = omega arith;
       top = top;
+      joins = λ d l n. absurd (cc n);
+      cuts = λ x d f.
+          let same : starting_at q (r.last + 1) ≡ x = cc f in
+          let begins : x.range.first ≡ r.last + 1 = ap (λ (y : Piece). y.range.first) (sym same) in
+          let first : q.range.first ≡ (get_or ps (ended_by r.last ps) d).range.first = ap (λ (x : Piece). x.range.first) (here ∙ get_or_default ps to q d l ∙ ap (λ (n : ℕ). get_or ps n d) e) in
+          (omega arith, refl, omega arith, omega arith);
       laid = λ p m f.
           let no : can_join p (starting_at q (max q.range.first (r.last + 1))) ≡ false = can_join_rest r.last status p q m f ∙ t in
           let apart : joined_after p (starting_at q (max q.range.first (r.last + 1)) ∷ drop (suc to) ps) ≡ p ∷ joined_after b (drop (suc to) ps) =
@@ -204,6 +214,8 @@ joined_above ps r status to q h e l here reaches t =
       within = omega arith;
       reaches = reaches;
       top = subst (λ (x : Piece). x.range.last ≤ top_of r.space) (sym here) (each_at r.space ps to q h.each l).within;
+      joins = λ d m n. ap (λ (x : Piece). x.range.last) (here ∙ get_or_default ps to q d l ∙ ap (λ (n : ℕ). get_or ps n d) e);
+      cuts = λ x d e. absurd (cc e);
       laid = λ p m f.
           let b : Piece = starting_at q (max q.range.first (r.last + 1)) in
           let yes : can_join p b ≡ true = can_join_rest r.last status p q m f ∙ t in

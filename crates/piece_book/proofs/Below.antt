@@ -2,8 +2,8 @@
 use Rattle.std.proofs.Common.{◌≡◌, ℕ, ◌+◌, ◌-◌, ◌<◌, ◌≤◌, suc, zero, min, Bool, true, false, ◌&&◌, ◌==◌, nat_lt, nat_le, List, [], ◌∷◌, ◌++◌, length, get_or, take, None, Some, refl, sym, ◌∙◌, ap, subst, inl, inr, arith, append_assoc}
 use Rattle.std.proofs.lemmas.Bool.{cases_Bool, cases_lt, ltb-true, le-ltb, lt-ltb, le-leb, lt-leb}
 use Rattle.std.proofs.lemmas.Bool.Decides.{nat_tests}
-use Rattle.std.proofs.lemmas.List.{take_more}
-use Rattle.std.proofs.lemmas.List.Sums.{prefix_len_passes}
+use Rattle.std.proofs.lemmas.List.{take_more, get_or_default}
+use Rattle.std.proofs.lemmas.List.Sums.{prefix_len_passes, prefix_len_stops}
 use Rattle.std.specs.List.{flat_map}
 use Rattle.num_range.specs.declared.space.Space.{Space}
 use Rattle.num_range.specs.Range.{PlainRange}
@@ -12,6 +12,7 @@ use Rattle.reg_entry.specs.declared.card.Status.{Status}
 use Rattle.reg_entry.specs.declared.piece.Piece.{Piece}
 use Rattle.reg_entry.specs.Card.{is_available}
 use Rattle.reg_entry.specs.Pieces.{part_below, can_join, joined, joined_after, RisesFrom, IsSettled, IsSettledAfter, AllPiecesOf, IsPieceOf, ArePieces}
+use Rattle.piece_book.proofs.Rising.{lasts_rise}
 use Rattle.piece_book.specs.Seams.{begun_below, ended_below, joins_up, JoinsBelow}
 
 -- the piece with another last number
@@ -195,6 +196,24 @@ last_begins ps x from p e some here =
     ltb-true p.range.first x (subst (λ (q : Piece). nat_lt q.range.first x ≡ true) (sym here)
     (prefix_len_passes (λ (q : Piece). nat_lt q.range.first x) ps (from - 1) p (omega arith)))
 
+-- no more pieces lie below than stand before one that doesn't
+pub ended_le_at : (ps : List Piece) (x i : ℕ) (d : Piece) → i < length ps → x ≤ (get_or ps i d).range.last → ended_below x ps ≤ i
+ended_le_at ps x i d l h = elim (cases_lt i (ended_below x ps)) [
+  | inl more ↦
+      let ends = ltb-true (get_or ps i d).range.last x (prefix_len_passes (λ (p : Piece). nat_lt p.range.last x) ps i d more) in
+      absurd (omega arith)
+  | inr few ↦ few
+]
+
+-- from the first piece that doesn't lie below on, none does
+pub ended_over : (ps : List Piece) (x i : ℕ) (d : Piece) → RisesFrom 0 ps → ended_below x ps ≤ i → i < length ps → x ≤ (get_or ps i d).range.last
+ended_over ps x i d h l m =
+    let k : ℕ = ended_below x ps in
+    let stop : nat_lt (get_or ps k d).range.last x ≡ false = prefix_len_stops (λ (p : Piece). nat_lt p.range.last x) ps d (omega arith) in
+    let over : x ≤ (get_or ps k d).range.last = grind (arith, nat_tests) in
+    let rise = lasts_rise ps h k i d l m in
+    omega arith
+
 pub nothing_below : (ps : List Piece) (r : PlainRange) (status : Status) (from : ℕ) → ArePieces r.space ps → from ≡ begun_below r.first ps → from ≡ 0
     → JoinsBelow ps r status from None r.first None
 nothing_below ps r status from h e z =
@@ -205,6 +224,8 @@ nothing_below ps r status from h e z =
       near = omega arith;
       reaches = omega arith;
       free = λ c s. ap is_available s;
+      joins = λ d l. absurd (omega arith);
+      cuts = λ x d e. absurd (cc e);
       laid = λ c above s. ap (λ (xs : List Piece). joined (xs ++ record { range = r; card = c } ∷ above)) none
           ∙ ap (λ (n : ℕ). take n ps ++ joined_after (record { range = r; card = c }) above) (sym z);
     }
@@ -225,6 +246,8 @@ apart_below ps r status from p h e some within here t past =
       near = omega arith;
       reaches = omega arith;
       free = λ c s. ap is_available s;
+      joins = λ d l. absurd (omega arith);
+      cuts = λ x d e. absurd (cc e);
       laid = λ c above s.
           let new : Piece = record { range = r; card = c } in
           let no : can_join (ending_at p (min p.range.last (r.first - 1))) new ≡ false = can_join_new r status p c above_zero s ∙ t in
@@ -246,11 +269,19 @@ cut_below ps r status from p h e some within here t over =
     let many = begun_le_ended 0 ps r.first h.rises in
     let above_zero : 0 < r.first = low_begins 0 ps r.first i h.rises begun in
     let least : min p.range.last (r.first - 1) ≡ r.first - 1 = omega arith in
+    let most = ended_le_at ps r.first i p (omega arith) (subst (λ (q : Piece). r.first ≤ q.range.last) here over) in
+    let low = last_begins ps r.first from p e some here in
     record {
       kept = omega arith;
       near = omega arith;
       reaches = omega arith;
       free = λ c s. ap is_available s;
+      joins = λ d l. absurd (omega arith);
+      cuts = λ x d e.
+          let same : ending_at p (r.first - 1) ≡ x = cc e in
+          let ends : x.range.last ≡ r.first - 1 = ap (λ (q : Piece). q.range.last) (sym same) in
+          let begins : p.range.first ≡ (get_or ps i d).range.first = ap (λ (q : Piece). q.range.first) (here ∙ get_or_default ps i p d (omega arith)) in
+          (omega arith, refl, omega arith, omega arith);
       laid = λ c above s.
           let new : Piece = record { range = r; card = c } in
           let no : can_join (ending_at p (min p.range.last (r.first - 1))) new ≡ false = can_join_new r status p c above_zero s ∙ t in
@@ -284,6 +315,8 @@ joined_below ps r status from p h e some within here t =
       near = omega arith;
       reaches = omega arith;
       free = λ c s. both.0 ∙ sym both.1;
+      joins = λ d l. ap (λ (q : Piece). q.range.first) (here ∙ get_or_default ps i p d (omega arith));
+      cuts = λ x d e. absurd (cc e);
       laid = λ c above s.
           let new : Piece = record { range = r; card = c } in
           let yes : can_join (ending_at p (min p.range.last (r.first - 1))) new ≡ true = can_join_new r status p c above_zero s ∙ t in

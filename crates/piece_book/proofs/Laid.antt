@@ -9,7 +9,7 @@ use Rattle.reg_entry.specs.declared.piece.Piece.{Piece}
 use Rattle.reg_entry.specs.Pieces.{part_above, laid}
 use Rattle.piece_book.specs.Seams.{ended_below, ended_by, JoinsBelow, JoinsAbove}
 
-ended_below_le_by : (first last : ℕ) (ps : List Piece) → first ≤ last → ended_below first ps ≤ ended_by last ps
+pub ended_below_le_by : (first last : ℕ) (ps : List Piece) → first ≤ last → ended_below first ps ≤ ended_by last ps
 ended_below_le_by first last [] h = omega arith
 ended_below_le_by first last (p ∷ ps) h = elim (cases_Bool (nat_lt p.range.last first)) [
   | inl t ↦

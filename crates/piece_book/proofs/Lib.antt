@@ -4,3 +4,6 @@ pub mod Above
 pub mod Laid
 pub mod Runs
 pub mod Kept
+pub mod Touching
+pub mod Cuts
+pub mod Totals

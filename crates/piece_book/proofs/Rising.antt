@@ -37,7 +37,7 @@ lies_above low (p ∷ ps) zero (suc j) d h l m =
     let above = begins_from (p.range.last + 1) ps j d h.2 (omega arith) in omega arith
 lies_above low (p ∷ ps) (suc i) (suc j) d h l m = lies_above (p.range.last + 1) ps i j d h.2 (omega arith) (omega arith)
 
-firsts_rise : (ps : List Piece) → RisesFrom 0 ps → IsNonDecreasingBy (λ p. p.range.first) ps
+pub firsts_rise : (ps : List Piece) → RisesFrom 0 ps → IsNonDecreasingBy (λ p. p.range.first) ps
 firsts_rise ps h i j d l m = elim (cases_lt i j) [
   | inl below ↦
       let above = lies_above 0 ps i j d h below m in
@@ -46,7 +46,7 @@ firsts_rise ps h i j d l m = elim (cases_lt i j) [
   | inr same ↦ let e : i ≡ j = omega arith in subst (λ (k : ℕ). (get_or ps i d).range.first ≤ (get_or ps k d).range.first) e (omega arith)
 ]
 
-lasts_rise : (ps : List Piece) → RisesFrom 0 ps → IsNonDecreasingBy (λ p. p.range.last) ps
+pub lasts_rise : (ps : List Piece) → RisesFrom 0 ps → IsNonDecreasingBy (λ p. p.range.last) ps
 lasts_rise ps h i j d l m = elim (cases_lt i j) [
   | inl below ↦
       let above = lies_above 0 ps i j d h below m in
@@ -64,7 +64,7 @@ parted_below ps x h = IsPartitionedBy-ltb (λ p. p.range.last) ps x (lasts_rise 
 pub parted_by_last : (ps : List Piece) (x : ℕ) → RisesFrom 0 ps → IsPartitionedBy (λ p. nat_le p.range.last x) ps
 parted_by_last ps x h = IsPartitionedBy-leb (λ p. p.range.last) ps x (lasts_rise ps h)
 
-some_piece : Piece
+pub some_piece : Piece
 some_piece = record { range = record { space = Asn; first = 0; last = 0 }; card = plain_card }
 
 -- a point before which each piece passes, and after which none does, is how many pass from the front on

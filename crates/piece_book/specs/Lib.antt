@@ -1,3 +1,7 @@
 pub mod Book
 pub mod Room
 pub mod Seams
+pub mod Touched
+pub mod Cutting
+pub mod Places
+pub mod Sums

@@ -1,5 +1,5 @@
 -- What laying a card changes at the two ends of its range: the pieces there are cut, or join the new one.
-use Rattle.std.specs.Prelude.{◌≡◌, ℕ, ◌+◌, ◌≤◌, Bool, ◌&&◌, nat_lt, nat_le, List, ◌∷◌, length, ◌++◌, Option, take, drop, unwrap_or, option_to_list}
+use Rattle.std.specs.Prelude.{◌≡◌, ℕ, ◌+◌, ◌<◌, ◌≤◌, slice_index_or, None, Some, Bool, ◌&&◌, nat_lt, nat_le, List, ◌∷◌, length, ◌++◌, Option, take, drop, unwrap_or, option_to_list}
 use Rattle.std.specs.List.{flat_map, prefix_len}
 use Rattle.num_range.specs.Space.{top_of}
 use Rattle.num_range.specs.Range.{PlainRange}
@@ -36,6 +36,9 @@ pub record JoinsBelow (ps : List Piece) (r : PlainRange) (status : Status) (from
   pub near : ended_below r.first ps ≤ from + 1
   pub reaches : first ≤ r.first
   pub free : (c : Card) → c.status ≡ status → is_available (unwrap_or card c).status ≡ is_available status
+  -- a piece that lies below and doesn't stay begins where the new one does
+  pub joins : (d : Piece) → from < ended_below r.first ps → first ≡ (slice_index_or ps from d).range.first
+  pub cuts : (p d : Piece) → rest ≡ Some p → (from ≡ ended_below r.first ps) × (first ≡ r.first) × ((slice_index_or ps from d).range.first < r.first) × (p.range.last < r.first)
   pub laid : (c : Card) (above : List Piece) → c.status ≡ status
       → joined (flat_map (part_below r) ps ++ record { range = r; card = c } ∷ above)
       ≡ take from ps ++ (option_to_list rest ++ joined_after (record { range = record { space = r.space; first = first; last = r.last }; card = unwrap_or card c }) above)
@@ -48,6 +51,9 @@ pub record JoinsAbove (ps : List Piece) (r : PlainRange) (status : Status) (to :
   pub within : to ≤ length ps
   pub reaches : r.last ≤ last
   pub top : last ≤ top_of r.space
+  -- a piece that ends above, doesn't stay and has no rest ends where the new one does
+  pub joins : (d : Piece) → ended_by r.last ps < to → rest ≡ None → last ≡ (slice_index_or ps (ended_by r.last ps) d).range.last
+  pub cuts : (p d : Piece) → rest ≡ Some p → (ended_by r.last ps < to) × (last ≡ r.last) × ((slice_index_or ps (ended_by r.last ps) d).range.first ≤ r.last) × (r.last < p.range.first)
   pub laid : (p : Piece) → p.range.last ≡ r.last → is_available p.card.status ≡ is_available status
       → joined_after p (flat_map (part_above r) ps)
       ≡ record { range = record { space = p.range.space; first = p.range.first; last = last }; card = p.card } ∷ (option_to_list rest ++ drop to ps)

@@ -1,15 +1,19 @@
-ghost use Rattle.std.specs.Prelude.{◌≡◌, ◌+◌, ◌^◌, ◌≤◌, List, length, IfOk};
+ghost use Rattle.std.specs.Prelude.{◌≡◌, ◌+◌, ◌^◌, ◌<◌, ◌≤◌, List, length, IfOk};
 ghost use Rattle.std.specs.Option.{option_map};
 ghost use Rattle.reg_entry.specs.declared.card.Card.{Card};
 ghost use Rattle.reg_entry.specs.declared.piece.Piece.{Piece};
 ghost use Rattle.reg_entry.specs.Pieces.{ArePieces, IsCard, IsInOnePieceOrNone, IsPoolRange, piece_at, first_met, overlap, laid};
+ghost use Rattle.piece_book.specs.Cutting.{IsJoinPlace, IsSplitPlace, joined_at, split_at_number};
+ghost use Rattle.piece_book.specs.Sums.{status_sum};
+ghost use Rattle.piece_book.specs.Touched.{IsTouched};
 ghost use Rattle.reg_entry.specs.Partition.{empty_partition, pieces_in, with_pieces, piece_count, IsPartition};
 
-use crate::PieceWalk;
+use crate::cutting::{join, split};
 use crate::laying::{count_after, lay};
 use crate::search::first_between;
+use crate::sums::status_sum;
+use crate::{PieceWalk, Touched};
 use num_range::{Number, Range, Space};
-use reg_entry::laws::painting_keeps_pieces;
 use reg_entry::{Card, Piece, Status};
 use std::alloc::{AllocError, Global};
 use std::marker::Model;
@@ -124,20 +128,63 @@ impl PieceBook {
     }
 
     /// Paints the card over the range, and joins the available pieces that touch then.
-    pub fn lay(&mut self, range: &Range, card: &Card)
+    pub fn lay(&mut self, range: &Range, card: &Card) -> Touched
         requires one { IsInOnePieceOrNone (pieces_in self.old.partition range.now.space) range.now }
         requires pooled { IsPoolRange range.now }
         requires plain { IsCard card.now }
         requires room { piece_count (with_pieces self.old.partition range.now.space (laid (pieces_in self.old.partition range.now.space) range.now card.now)) ≤ self.old.room }
         ensures pieces { self.new.partition ≡ with_pieces self.old.partition range.now.space (laid (pieces_in self.old.partition range.now.space) range.now card.now) }
         ensures room { self.new.room ≡ self.old.room }
+        ensures touched { IsTouched (pieces_in self.old.partition range.now.space) (pieces_in self.new.partition range.now.space)
+            result.before.items result.after.items }
     {
-        painting_keeps_pieces();
         match range.space() {
             Space::Asn => lay(&mut self.asn, range, card),
             Space::Ipv4 => lay(&mut self.ipv4, range, card),
             Space::Ipv6 => lay(&mut self.ipv6, range, card),
         }
+    }
+
+    /// Parts the piece that holds the number in two, before the number.
+    pub fn split(&mut self, at: Number) -> Touched
+        requires place { IsSplitPlace (pieces_in self.old.partition at.space) at.value }
+        requires room { piece_count self.old.partition < self.old.room }
+        ensures pieces { self.new.partition ≡ with_pieces self.old.partition at.space
+            (split_at_number (pieces_in self.old.partition at.space) at.value) }
+        ensures room { self.new.room ≡ self.old.room }
+        ensures touched { IsTouched (pieces_in self.old.partition at.space) (pieces_in self.new.partition at.space)
+            result.before.items result.after.items }
+    {
+        let space = at.space();
+        match space {
+            Space::Asn => split(&mut self.asn, space, at.value()),
+            Space::Ipv4 => split(&mut self.ipv4, space, at.value()),
+            Space::Ipv6 => split(&mut self.ipv6, space, at.value()),
+        }
+    }
+
+    /// Makes one of the piece that begins at the number and the one before it.
+    pub fn join(&mut self, at: Number) -> Touched
+        requires { IsJoinPlace (pieces_in self.old.partition at.space) at.value }
+        ensures pieces { self.new.partition ≡ with_pieces self.old.partition at.space
+            (joined_at (pieces_in self.old.partition at.space) at.value) }
+        ensures room { self.new.room ≡ self.old.room }
+        ensures touched { IsTouched (pieces_in self.old.partition at.space) (pieces_in self.new.partition at.space)
+            result.before.items result.after.items }
+    {
+        let space = at.space();
+        match space {
+            Space::Asn => join(&mut self.asn, space, at.value()),
+            Space::Ipv4 => join(&mut self.ipv4, space, at.value()),
+            Space::Ipv6 => join(&mut self.ipv6, space, at.value()),
+        }
+    }
+
+    /// How many numbers of the space have the status.
+    pub fn sum(&self, space: Space, status: Status) -> u128
+        ensures { result ≡ status_sum (pieces_in self.now.partition space) status }
+    {
+        status_sum(self.in_space(space), status)
     }
 
     /// The pieces of a space, rising.

@@ -1,13 +1,18 @@
 //! Laying a card over a range of a space's pieces. Only the pieces that the range meets and their two neighbours
 //! are looked at.
-ghost use Rattle.std.specs.Prelude.{◌≡◌, ◌+◌, ◌-◌, ◌≤◌, ◌++◌, nat_le, length, option_to_list, take, drop, vec_len, vec_capacity};
+ghost use Rattle.std.specs.Prelude.{[], ◌∷◌, IsTrue, ◌≡◌, ◌+◌, ◌-◌, ◌≤◌, ◌++◌, nat_le, length, option_to_list, take, drop, vec_len, vec_capacity};
 ghost use Rattle.num_range.specs.Range.{IsRange};
-ghost use Rattle.reg_entry.specs.Pieces.{ArePieces, laid};
+ghost use Rattle.reg_entry.specs.Pieces.{ArePieces, IsCard, IsInOnePieceOrNone, IsPoolRange, laid};
 ghost use Rattle.reg_entry.specs.declared.card.Card.{Card};
+ghost use Rattle.reg_entry.specs.declared.piece.Piece.{Piece};
+ghost use Rattle.piece_book.specs.Touched.{IsTouched};
 ghost use Rattle.piece_book.specs.Seams.{joins_up, joins_down, JoinsBelow, JoinsAbove};
 
+use crate::Touched;
 use crate::search::{begun_below, ended_by};
+use arrayvec::ArrayVec;
 use num_range::Range;
+use reg_entry::laws::painting_keeps_pieces;
 use reg_entry::{Card, Piece, Status};
 
 /// What stands below the new piece, and what it joins there.
@@ -179,7 +184,7 @@ fn remove_run(pieces: &mut Vec<Piece>, from: usize, to: usize)
 }
 
 /// Puts the new pieces in place of those from the one place up to the other. Only what is behind them moves.
-fn replace_run(pieces: &mut Vec<Piece>, from: usize, to: usize, new: &[Piece])
+pub(crate) fn replace_run(pieces: &mut Vec<Piece>, from: usize, to: usize, new: &[Piece])
     requires ordered { from ≤ to }
     requires within { to ≤ vec_len pieces.old }
     requires room { vec_len pieces.old + length new.now ≤ vec_capacity pieces.old + (to - from) }
@@ -201,24 +206,65 @@ fn replace_run(pieces: &mut Vec<Piece>, from: usize, to: usize, new: &[Piece])
     remove_run(pieces, at, end);
 }
 
+/// A few pieces, copied.
+pub(crate) fn few(pieces: &[Piece]) -> ArrayVec<Piece, 3>
+    requires { length pieces.now ≤ 3 }
+    ensures { result.items ≡ pieces.now }
+{
+    let mut few = ArrayVec::new();
+    // They fit.
+    let _ = few.try_extend_from_slice(pieces);
+    few
+}
+
+/// The new piece between what is left of those that it cuts.
+fn lined_up(low: &Option<Piece>, new: &Piece, high: &Option<Piece>) -> ArrayVec<Piece, 3>
+    ensures { result.items ≡ option_to_list low.now ++ (new.now ∷ option_to_list high.now) }
+{
+    let mut line = ArrayVec::new();
+    if let Some(low) = low {
+        line.push(*low);
+    }
+    line.push(*new);
+    if let Some(high) = high {
+        line.push(*high);
+    }
+    line
+}
+
+/// Whether one piece alone stands there before and after.
+fn is_one_for_one(run: &[Piece], line: &[Piece]) -> bool
+    ensures same { IsTrue result → run.now ≡ line.now }
+    ensures one { (p : Piece) → run.now ≡ p ∷ [] → line.now ≡ p ∷ [] → IsTrue result }
+{
+    run.len() == 1 && line.len() == 1 && run[0] == line[0]
+}
+
 /// Lays the card over the range.
-pub(crate) fn lay(pieces: &mut Vec<Piece>, range: &Range, card: &Card)
+pub(crate) fn lay(pieces: &mut Vec<Piece>, range: &Range, card: &Card) -> Touched
     requires pieces { ArePieces range.now.space pieces.old.items }
+    requires one { IsInOnePieceOrNone pieces.old.items range.now }
+    requires pooled { IsPoolRange range.now }
+    requires plain { IsCard card.now }
     requires room { length (laid pieces.old.items range.now card.now) ≤ vec_capacity pieces.old }
     ensures items { pieces.new.items ≡ laid pieces.old.items range.now card.now }
-    ensures valid { IsRange range.now }
+    ensures pieces { ArePieces range.now.space pieces.new.items }
+    ensures touched { IsTouched pieces.old.items pieces.new.items result.before.items result.after.items }
     ensures capacity { vec_capacity pieces.old ≤ vec_capacity pieces.new }
 {
+    painting_keeps_pieces();
     let (below, above) = seams(pieces, range, card.status);
     let new = Piece {
         range: Range::between(range.space(), below.first, above.last),
         card: below.card.unwrap_or(*card),
     };
     let (from, to) = (below.from, above.to);
-    match (below.rest, above.rest) {
-        (None, None) => replace_run(pieces, from, to, &[new]),
-        (Some(low), None) => replace_run(pieces, from, to, &[low, new]),
-        (None, Some(high)) => replace_run(pieces, from, to, &[new, high]),
-        (Some(low), Some(high)) => replace_run(pieces, from, to, &[low, new, high]),
+    let after = lined_up(&below.rest, &new, &above.rest);
+    let run = &pieces[from..to];
+    if is_one_for_one(run, &after) {
+        return Touched::nothing();
     }
+    let before = few(run);
+    replace_run(pieces, from, to, &after);
+    Touched { before, after }
 }

@@ -2,11 +2,15 @@
 #![tactic(auto)]
 
 mod book;
+mod cutting;
 mod laying;
 mod search;
+mod sums;
 #[cfg(test)]
 mod tests;
+mod touched;
 mod walk;
 
 pub use book::PieceBook;
+pub use touched::Touched;
 pub use walk::PieceWalk;

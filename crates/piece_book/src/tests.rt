@@ -3,7 +3,7 @@ ghost use Rattle.reg_entry.specs.Card.{is_available};
 ghost use Rattle.reg_entry.specs.Partition.{pieces_in};
 ghost use Rattle.reg_entry.specs.Pieces.{IsCard, IsPoolRange};
 
-use crate::PieceBook;
+use crate::{PieceBook, Touched};
 use num_range::{Number, Range, Space};
 use reg_entry::{Card, Piece, Status};
 use std::alloc::{AllocError, Global};
@@ -37,8 +37,8 @@ fn card_of(status: Status) -> Card
     }
 }
 
-/// Lays a card where that may be done, and says how many pieces there are then.
-fn laid(book: &mut PieceBook, range: &Range, status: Status) -> Option<u32> {
+/// Lays a card where that may be done, and says how many pieces there are then, and how many went and came.
+fn laid(book: &mut PieceBook, range: &Range, status: Status) -> Option<(u32, usize, usize)> {
     if let Some(piece) = book.first_met(range) {
         if !range.inside(&piece.range) {
             return None;
@@ -49,8 +49,39 @@ fn laid(book: &mut PieceBook, range: &Range, status: Status) -> Option<u32> {
         return None;
     }
     let card = card_of(status);
-    book.lay(range, &card);
-    Some(count)
+    let touched = book.lay(range, &card);
+    Some((count, touched.before.len(), touched.after.len()))
+}
+
+/// Parts a piece where that may be done.
+fn parted(book: &mut PieceBook, at: Number) -> Option<Touched> {
+    let piece = book.piece_at(at)?;
+    let held = !piece.card.status.is_available() && piece.range.first() < at.value();
+    if !held || book.pieces() >= book.room() {
+        return None;
+    }
+    Some(book.split(at))
+}
+
+/// Makes one piece of two where that may be done.
+fn made_one(book: &mut PieceBook, at: Number) -> Option<Touched> {
+    let above = book.piece_at(at)?;
+    if above.card.status.is_available() || above.range.first() != at.value() || at.value() == 0 {
+        return None;
+    }
+    let below = book.piece_at(Number::of(at.space(), at.value() - 1))?;
+    if below.card != above.card {
+        return None;
+    }
+    Some(book.join(at))
+}
+
+fn ends(alloc: Global, pieces: &[Piece]) -> Result<Vec<(u128, u128)>, AllocError> {
+    let mut ends = Vec::new(alloc);
+    for piece in pieces {
+        ends.push((piece.range.first(), piece.range.last()))?;
+    }
+    Ok(ends)
 }
 
 /// The first available piece, as a caller's loop finds it.
@@ -85,70 +116,53 @@ fn pieces_of_three_spaces(rt: HostRuntime) -> Result<(), Fail> {
 
     let v6 = 0x2001_0db8 << 96; // 2001:db8::, RFC 3849
     let v6_last = LAST_UNICAST - u64::MAX as u128; // the last /64
+    let v4 = DOCUMENTATION;
+    let v4_top = u32::MAX as u128;
+    // The count of pieces after, how many went or changed, and how many came.
     let rows = [
-        (Ipv4, DOCUMENTATION, DOCUMENTATION + 255, Available, Some(1)),
+        (Ipv4, v4, v4 + 255, Available, Some((1, 0, 1))),
         // The block behind it joins it, and one that only lies near doesn't.
-        (
-            Ipv4,
-            DOCUMENTATION + 256,
-            DOCUMENTATION + 511,
-            Available,
-            Some(1),
-        ),
-        (
-            Ipv4,
-            DOCUMENTATION + 513,
-            DOCUMENTATION + 513,
-            Available,
-            Some(2),
-        ),
+        (Ipv4, v4 + 256, v4 + 511, Available, Some((1, 1, 1))),
+        (Ipv4, v4 + 513, v4 + 513, Available, Some((2, 0, 1))),
         // A delegate inside cuts the piece on both sides, and one at its low end on one side.
-        (
-            Ipv4,
-            DOCUMENTATION + 64,
-            DOCUMENTATION + 127,
-            Allocated,
-            Some(4),
-        ),
-        (Ipv4, DOCUMENTATION, DOCUMENTATION + 31, Assigned, Some(5)),
+        (Ipv4, v4 + 64, v4 + 127, Allocated, Some((4, 1, 3))),
+        (Ipv4, v4, v4 + 31, Assigned, Some((5, 1, 2))),
         // Over two pieces nothing is laid.
-        (Ipv4, DOCUMENTATION, DOCUMENTATION + 32, Reserved, None),
+        (Ipv4, v4, v4 + 32, Reserved, None),
         // What comes back joins what is available on both sides.
-        (
-            Ipv4,
-            DOCUMENTATION + 64,
-            DOCUMENTATION + 127,
-            Available,
-            Some(3),
-        ),
-        (
-            Ipv4,
-            DOCUMENTATION + 512,
-            DOCUMENTATION + 512,
-            Available,
-            Some(2),
-        ),
-        (Ipv4, u32::MAX as u128, u32::MAX as u128, Available, Some(3)),
+        (Ipv4, v4 + 64, v4 + 127, Available, Some((3, 3, 1))),
+        (Ipv4, v4 + 512, v4 + 512, Available, Some((2, 2, 1))),
+        (Ipv4, v4_top, v4_top, Available, Some((3, 0, 1))),
         // Touching pieces that aren't both available stay two (RFC 5398).
-        (Asn, 64496, 64511, Reserved, Some(4)),
-        (Asn, 64512, 64512, Reserved, Some(5)),
-        (Asn, 64495, 64495, Available, Some(6)),
-        (Asn, u32::MAX as u128, u32::MAX as u128, Available, Some(7)),
-        (Ipv6, v6, v6 + u64::MAX as u128, Available, Some(8)),
-        (Ipv6, v6_last, LAST_UNICAST, Available, Some(9)),
-        (Ipv6, LAST_UNICAST, LAST_UNICAST, Allocated, Some(10)),
+        (Asn, 64496, 64511, Reserved, Some((4, 0, 1))),
+        (Asn, 64512, 64512, Reserved, Some((5, 0, 1))),
+        (Asn, 64495, 64495, Available, Some((6, 0, 1))),
+        (Asn, v4_top, v4_top, Available, Some((7, 0, 1))),
+        (Ipv6, v6, v6 + u64::MAX as u128, Available, Some((8, 0, 1))),
+        (Ipv6, v6_last, LAST_UNICAST, Available, Some((9, 0, 1))),
+        (
+            Ipv6,
+            LAST_UNICAST,
+            LAST_UNICAST,
+            Allocated,
+            Some((10, 1, 2)),
+        ),
         (Ipv6, LAST_UNICAST + 1, LAST_UNICAST + 1, Available, None),
+        // A piece that gets the card that it has is as it was.
+        (Asn, 64512, 64512, Reserved, Some((10, 0, 0))),
     ];
 
     let mut book = PieceBook::with_room(rt.alloc(), 10)?;
-    for (space, first, last, status, count) in rows {
+    for (space, first, last, status, wanted) in rows {
         let range = Range::new(space, first, last).ok_or("a range")?;
         assert_eq!(rt;
             laid(&mut book, &range, status),
-            count,
+            wanted,
             "at {first} to {last}"
         );
-        assert_eq!(rt; book.pieces(), count.unwrap_or(book.pieces()));
+        if let Some((count, _, _)) = wanted {
+            assert_eq!(rt; book.pieces(), count);
+        }
     }
     assert_eq!(rt; book.room(), 10);
 
@@ -185,11 +199,11 @@ fn the_whole_of_ipv4(rt: HostRuntime) -> Result<(), Fail> {
     let top = u32::MAX as u128;
     let mut book = PieceBook::with_room(rt.alloc(), 3)?;
     let whole = Range::between(Space::Ipv4, 0, top);
-    assert_eq!(rt; laid(&mut book, &whole, Status::Available), Some(1));
+    assert_eq!(rt; laid(&mut book, &whole, Status::Available), Some((1, 0, 1)));
     let last = Range::between(Space::Ipv4, top, top);
-    assert_eq!(rt; laid(&mut book, &last, Status::Allocated), Some(2));
+    assert_eq!(rt; laid(&mut book, &last, Status::Allocated), Some((2, 1, 2)));
     let first = Range::between(Space::Ipv4, 0, 0);
-    assert_eq!(rt; laid(&mut book, &first, Status::Allocated), Some(3));
+    assert_eq!(rt; laid(&mut book, &first, Status::Allocated), Some((3, 1, 2)));
 
     let first_free = first_available(&book, Space::Ipv4).map(|p| p.range);
     assert_eq!(rt; first_free, Some(Range::between(Space::Ipv4, 1, top - 1)));
@@ -207,5 +221,49 @@ fn the_whole_of_ipv4(rt: HostRuntime) -> Result<(), Fail> {
     assert_eq!(rt; book.piece_at(Number::of(Space::Asn, 0)), None);
     assert_eq!(rt; book.overlap(&last), Some(Number::of(Space::Ipv4, top)));
     assert_eq!(rt; book.overlap(&Range::between(Space::Asn, 0, top)), None);
+    assert_eq!(rt; book.sum(Space::Ipv4, Status::Allocated), 2);
+    assert_eq!(rt; book.sum(Space::Ipv4, Status::Available), top - 1);
+    assert_eq!(rt; book.sum(Space::Asn, Status::Available), 0);
+    Ok(())
+}
+
+#[test]
+fn a_piece_is_parted_and_made_one_again(rt: HostRuntime) -> Result<(), Fail> {
+    let alloc = rt.alloc();
+    let v4 = DOCUMENTATION;
+    let mut book = PieceBook::with_room(alloc, 4)?;
+    let held = Range::between(Space::Ipv4, v4, v4 + 127);
+    assert_eq!(rt; laid(&mut book, &held, Status::Allocated), Some((1, 0, 1)));
+    let free = Range::between(Space::Ipv4, v4 + 128, v4 + 255);
+    assert_eq!(rt; laid(&mut book, &free, Status::Available), Some((2, 0, 1)));
+
+    // Not before its first number, and not where it is available.
+    assert_eq!(rt;
+        parted(&mut book, Number::of(Space::Ipv4, v4)).is_none(),
+        true
+    );
+    assert_eq!(rt;
+        parted(&mut book, Number::of(Space::Ipv4, v4 + 192)).is_none(),
+        true
+    );
+
+    let middle = Number::of(Space::Ipv4, v4 + 64);
+    let whole = [(v4, v4 + 127)];
+    let halves = [(v4, v4 + 63), (v4 + 64, v4 + 127)];
+    let split = parted(&mut book, middle).ok_or("a split")?;
+    assert_eq!(rt; ends(alloc, &split.before)?.as_slice(), whole.as_slice());
+    assert_eq!(rt; ends(alloc, &split.after)?.as_slice(), halves.as_slice());
+    assert_eq!(rt; book.pieces(), 3);
+    assert_eq!(rt; book.sum(Space::Ipv4, Status::Allocated), 128);
+
+    // Not with a piece of another card.
+    assert_eq!(rt;
+        made_one(&mut book, Number::of(Space::Ipv4, v4 + 128)).is_none(),
+        true
+    );
+    let joined = made_one(&mut book, middle).ok_or("a join")?;
+    assert_eq!(rt; ends(alloc, &joined.before)?.as_slice(), halves.as_slice());
+    assert_eq!(rt; ends(alloc, &joined.after)?.as_slice(), whole.as_slice());
+    assert_eq!(rt; book.pieces(), 2);
     Ok(())
 }

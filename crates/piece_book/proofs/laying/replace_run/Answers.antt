@@ -29,7 +29,8 @@ loop-piece-preserved c =
 
 pub returns-clause-items : goal.returns-clause-items
 returns-clause-items c =
-    let whole = subst (λ (n : ℕ). IsReplaced c.args.pieces.now.items c.args.new.now c.args.from c.args.to n c.loop-piece.at c.loop-piece.end c.loop-piece.pieces.items) (omega arith) c.loop-piece.invariant.0 in
+    let here : c.loop-piece.piece-index ≡ length c.args.new.now = omega arith in
+    let whole = subst (λ (n : ℕ). IsReplaced c.args.pieces.now.items c.args.new.now c.args.from c.args.to n c.loop-piece.at c.loop-piece.end c.loop-piece.pieces.items) here c.loop-piece.invariant.0 in
     let within : c.args.to ≤ length c.args.pieces.now.items = omega arith in
     c.remove_run.ensures.items
     ∙ run_replaced c.args.pieces.now.items c.args.new.now c.loop-piece.pieces.items c.args.from c.args.to c.loop-piece.at c.loop-piece.end c.requires.ordered within whole
