@@ -14,8 +14,8 @@ pub joined_after_rises : (low : ℕ) (p : Piece) (qs : List Piece) → RisesFrom
 joined_after_rises low p [] h = h
 joined_after_rises low p (q ∷ qs) h =
     cond_both (can_join p q) (joined_after (joined_pair p q) qs) (p ∷ joined_after q qs) (RisesFrom low)
-      (λ e. joined_after_rises low (joined_pair p q) qs (h.0, omega arith, h.2.2))
-      (λ e. (h.0, h.1, joined_after_rises (p.range.last + 1) q qs h.2))
+    (λ e. joined_after_rises low (joined_pair p q) qs (h.0, omega arith, h.2.2))
+    (λ e. (h.0, h.1, joined_after_rises (p.range.last + 1) q qs h.2))
 
 pub joined_rises : (low : ℕ) (ps : List Piece) → RisesFrom low ps → RisesFrom low (joined ps)
 joined_rises low [] h = tt
@@ -23,18 +23,18 @@ joined_rises low (p ∷ ps) h = joined_after_rises low p ps h
 
 pub joined_pair_is_piece : (space : Space) (p q : Piece) → IsPieceOf space p → IsPieceOf space q → IsPieceOf space (joined_pair p q)
 joined_pair_is_piece space p q hp hq = record {
-    of_space = hp.of_space;
-    within = hq.within;
-    pooled = λ e. ((hp.pooled e).0, (hq.pooled (hq.of_space ∙ sym hp.of_space ∙ e)).1);
-    plain = hp.plain;
-  }
+  of_space = hp.of_space;
+  within = hq.within;
+  pooled = λ e. ((hp.pooled e).0, (hq.pooled (hq.of_space ∙ sym hp.of_space ∙ e)).1);
+  plain = hp.plain;
+}
 
 pub joined_after_pieces : (space : Space) (p : Piece) (qs : List Piece) → AllPiecesOf space (p ∷ qs) → AllPiecesOf space (joined_after p qs)
 joined_after_pieces space p [] h = h
 joined_after_pieces space p (q ∷ qs) h =
     cond_both (can_join p q) (joined_after (joined_pair p q) qs) (p ∷ joined_after q qs) (AllPiecesOf space)
-      (λ e. joined_after_pieces space (joined_pair p q) qs (joined_pair_is_piece space p q h.0 h.1.0, h.1.1))
-      (λ e. (h.0, joined_after_pieces space q qs h.1))
+    (λ e. joined_after_pieces space (joined_pair p q) qs (joined_pair_is_piece space p q h.0 h.1.0, h.1.1))
+    (λ e. (h.0, joined_after_pieces space q qs h.1))
 
 pub joined_pieces : (space : Space) (ps : List Piece) → AllPiecesOf space ps → AllPiecesOf space (joined ps)
 joined_pieces space [] h = tt
@@ -45,15 +45,15 @@ pub settled_before_joined : (p q : Piece) (qs : List Piece) → can_join p q ≡
 settled_before_joined p q [] h = (h, tt)
 settled_before_joined p q (s ∷ qs) h =
     cond_both (can_join q s) (joined_after (joined_pair q s) qs) (q ∷ joined_after s qs) (IsSettledAfter p)
-      (λ e. settled_before_joined p (joined_pair q s) qs h)
-      (λ e. (h, settled_before_joined q s qs e))
+    (λ e. settled_before_joined p (joined_pair q s) qs h)
+    (λ e. (h, settled_before_joined q s qs e))
 
 pub joined_after_settled : (p : Piece) (qs : List Piece) → IsSettled (joined_after p qs)
 joined_after_settled p [] = tt
 joined_after_settled p (q ∷ qs) =
     cond_both (can_join p q) (joined_after (joined_pair p q) qs) (p ∷ joined_after q qs) IsSettled
-      (λ e. joined_after_settled (joined_pair p q) qs)
-      (λ e. settled_before_joined p q qs e)
+    (λ e. joined_after_settled (joined_pair p q) qs)
+    (λ e. settled_before_joined p q qs e)
 
 pub joined_settled : (ps : List Piece) → IsSettled (joined ps)
 joined_settled [] = tt
@@ -63,7 +63,7 @@ pub joined_after_of_settled : (p : Piece) (qs : List Piece) → IsSettledAfter p
 joined_after_of_settled p [] h = refl
 joined_after_of_settled p (q ∷ qs) h =
     cond-false (can_join p q) (joined_after (joined_pair p q) qs) (p ∷ joined_after q qs) h.0
-      ∙ ap (λ xs. p ∷ xs) (joined_after_of_settled q qs h.1)
+    ∙ ap (λ xs. p ∷ xs) (joined_after_of_settled q qs h.1)
 
 -- where no neighbours can be joined, joining changes nothing
 pub joined_of_settled : (ps : List Piece) → IsSettled ps → joined ps ≡ ps

@@ -45,11 +45,12 @@ pub free_cases : (p : Piece) (ps : List Piece) (n : ℕ) → is_free (p ∷ ps) 
     → ((is_available p.card.status ≡ true) × (p.range.first ≤ n) × (n ≤ p.range.last)) ⊎ (is_free ps n ≡ true)
 free_cases p ps n h =
     elim (or_cases (is_available p.card.status && holds p n) (is_free ps n) h) [
-      inl e ↦
-        let both = and_parts (is_available p.card.status) (holds p n) e in
-        let inside = holds_true p n both.1 in
-        inl (both.0, inside.0, inside.1)
-    | inr e ↦ inr e ]
+      | inl e ↦
+          let both = and_parts (is_available p.card.status) (holds p n) e in
+          let inside = holds_true p n both.1 in
+          inl (both.0, inside.0, inside.1)
+      | inr e ↦ inr e
+    ]
 
 pub free_in_first : (p : Piece) (ps : List Piece) (n : ℕ) → is_available p.card.status ≡ true → p.range.first ≤ n → n ≤ p.range.last
     → is_free (p ∷ ps) n ≡ true
@@ -64,8 +65,9 @@ pub free_from : (low : ℕ) (ps : List Piece) (n : ℕ) → RisesFrom low ps →
 free_from low [] n rises h = absurd (false≢true h)
 free_from low (p ∷ ps) n rises h =
     elim (free_cases p ps n h) [
-      inl inside ↦ omega arith
-    | inr e ↦ let above : p.range.last + 1 ≤ n = free_from (p.range.last + 1) ps n rises.2 e in omega arith ]
+      | inl inside ↦ omega arith
+      | inr e ↦ let above : p.range.last + 1 ≤ n = free_from (p.range.last + 1) ps n rises.2 e in omega arith
+    ]
 
 -- the number after an available piece isn't free
 pub not_free_after : (p : Piece) (ps : List Piece) → RisesFrom (p.range.last + 1) ps → IsSettledAfter p ps
@@ -73,15 +75,16 @@ pub not_free_after : (p : Piece) (ps : List Piece) → RisesFrom (p.range.last +
 not_free_after p [] rises settled e h = false≢true h
 not_free_after p (q ∷ qs) rises settled e h =
     elim (free_cases q qs (p.range.last + 1) h) [
-      inl inside ↦
-        let touch : p.range.last + 1 ≡ q.range.first = omega arith in
-        let one : ((p.range.last + 1 == q.range.first) && is_available p.card.status) ≡ true =
+      | inl inside ↦
+          let touch : p.range.last + 1 ≡ q.range.first = omega arith in
+          let one : ((p.range.last + 1 == q.range.first) && is_available p.card.status) ≡ true =
           and_from (p.range.last + 1 == q.range.first) (is_available p.card.status) (eq-eqb (p.range.last + 1) q.range.first touch) e in
-        both_ways (can_join p q) settled.0
+          both_ways (can_join p q) settled.0
           (and_from ((p.range.last + 1 == q.range.first) && is_available p.card.status) (is_available q.card.status) one inside.0)
-    | inr further ↦
-        let above : q.range.last + 1 ≤ p.range.last + 1 = free_from (q.range.last + 1) qs (p.range.last + 1) rises.2 further in
-        absurd (omega arith) ]
+      | inr further ↦
+          let above : q.range.last + 1 ≤ p.range.last + 1 = free_from (q.range.last + 1) qs (p.range.last + 1) rises.2 further in
+          absurd (omega arith)
+    ]
 
 -- a run of free numbers that begins in a piece ends in it
 pub run_ends_in_piece : (p : Piece) (ps : List Piece) (start last : ℕ) → RisesFrom (p.range.last + 1) ps → IsSettledAfter p ps
@@ -89,11 +92,13 @@ pub run_ends_in_piece : (p : Piece) (ps : List Piece) (start last : ℕ) → Ris
     → ((n : ℕ) → start ≤ n → n ≤ last → is_free (p ∷ ps) n ≡ true) → last ≤ p.range.last
 run_ends_in_piece p ps start last rises settled e order h free =
     elim (cases_lt p.range.last last) [
-      inl lt ↦
-        elim (free_cases p ps (p.range.last + 1) (free (p.range.last + 1) (omega arith) (omega arith))) [
-          inl inside ↦ absurd (omega arith)
-        | inr further ↦ absurd (not_free_after p ps rises settled e further) ]
-    | inr le ↦ le ]
+      | inl lt ↦
+          elim (free_cases p ps (p.range.last + 1) (free (p.range.last + 1) (omega arith) (omega arith))) [
+            | inl inside ↦ absurd (omega arith)
+            | inr further ↦ absurd (not_free_after p ps rises settled e further)
+          ]
+      | inr le ↦ le
+    ]
 
 -- ---- blocks
 
@@ -104,17 +109,18 @@ pub free_in_others : (p : Piece) (ps : List Piece) (space : Space) (size start :
     → IsFreeBlock (p ∷ ps) space size start → IsFreeBlock ps space size start
 free_in_others p ps space size start pos rises settled order full block =
     let after : p.range.last < start =
-      elim (free_cases p ps start (block.free start (omega arith) (omega arith))) [
-        inl inside ↦
+    elim (free_cases p ps start (block.free start (omega arith) (omega arith))) [
+      | inl inside ↦
           let multiple : ℕ = alignment space size in
           let rounded : ℕ = rounded_up p.range.first multiple in
           let ends : start + (size - 1) ≤ p.range.last =
-            run_ends_in_piece p ps start (start + (size - 1)) rises settled inside.0 order inside.2 block.free in
+          run_ends_in_piece p ps start (start + (size - 1)) rises settled inside.0 order inside.2 block.free in
           let least : rounded ≤ start = rounded_up_is_least p.range.first multiple start (alignment_pos space size pos) inside.1 block.aligned in
           let fits : rounded + (size - 1) ≤ p.range.last = omega arith in
           absurd (both_ways (is_available p.card.status && nat_le (rounded + (size - 1)) p.range.last) full
-            (and_from (is_available p.card.status) (nat_le (rounded + (size - 1)) p.range.last) inside.0 (le-leb (rounded + (size - 1)) p.range.last fits)))
-      | inr e ↦ let above : p.range.last + 1 ≤ start = free_from (p.range.last + 1) ps start rises e in omega arith ] in
+          (and_from (is_available p.card.status) (nat_le (rounded + (size - 1)) p.range.last) inside.0 (le-leb (rounded + (size - 1)) p.range.last fits)))
+      | inr e ↦ let above : p.range.last + 1 ≤ start = free_from (p.range.last + 1) ps start rises e in omega arith
+    ] in
     record {
       aligned = block.aligned;
       within = block.within;
@@ -124,10 +130,10 @@ free_in_others p ps space size start pos rises settled order full block =
 pub free_with_first : (p : Piece) (ps : List Piece) (space : Space) (size start : ℕ) → IsFreeBlock ps space size start
     → IsFreeBlock (p ∷ ps) space size start
 free_with_first p ps space size start block = record {
-    aligned = block.aligned;
-    within = block.within;
-    free = λ n h k. free_in_rest p ps n (block.free n h k);
-  }
+  aligned = block.aligned;
+  within = block.within;
+  free = λ n h k. free_in_rest p ps n (block.free n h k);
+}
 
 -- the first aligned number of an available piece with room starts a free block
 pub free_at_rounded : (p : Piece) (ps : List Piece) (space : Space) (size : ℕ) → 0 < size → p.range.last ≤ top_of space
@@ -163,20 +169,21 @@ least_block_from low space (p ∷ ps) size pos rises settled each =
     let multiple : ℕ = alignment space size in
     let rounded : ℕ = rounded_up p.range.first multiple in
     cond_both (is_available p.card.status && nat_le (rounded + (size - 1)) p.range.last) (Some rounded) (least_block ps space size)
-      (IsLeastBlock (p ∷ ps) space size)
-      (λ e.
-        let both = and_parts (is_available p.card.status) (nat_le (rounded + (size - 1)) p.range.last) e in
-        let fits : rounded + (size - 1) ≤ p.range.last = leb-true (rounded + (size - 1)) p.range.last both.1 in
-        (free_at_rounded p ps space size pos each.0.within both.0 fits,
-         λ start block.
-           rounded_up_is_least p.range.first multiple start (alignment_pos space size pos)
-             (free_from p.range.first (p ∷ ps) start (omega arith, rises.1, rises.2) (block.free start (omega arith) (omega arith)))
-             block.aligned))
-      (λ e.
-        least_of_same ps (p ∷ ps) space size (free_with_first p ps space size)
-          (λ start block. free_in_others p ps space size start pos rises.2 settled rises.1 e block)
-          (least_block ps space size)
-          (least_block_from (p.range.last + 1) space ps size pos rises.2 (settled_rest p ps settled) each.1))
+    (IsLeastBlock (p ∷ ps) space size)
+    (λ e.
+    let both = and_parts (is_available p.card.status) (nat_le (rounded + (size - 1)) p.range.last) e in
+    let fits : rounded + (size - 1) ≤ p.range.last = leb-true (rounded + (size - 1)) p.range.last both.1 in (
+      free_at_rounded p ps space size pos each.0.within both.0 fits,
+      λ start block.
+          rounded_up_is_least p.range.first multiple start (alignment_pos space size pos)
+          (free_from p.range.first (p ∷ ps) start (omega arith, rises.1, rises.2) (block.free start (omega arith) (omega arith)))
+          block.aligned,
+    ))
+    (λ e.
+    least_of_same ps (p ∷ ps) space size (free_with_first p ps space size)
+    (λ start block. free_in_others p ps space size start pos rises.2 settled rises.1 e block)
+    (least_block ps space size)
+    (least_block_from (p.range.last + 1) space ps size pos rises.2 (settled_rest p ps settled) each.1))
 
 pub least_block_is_least : (space : Space) (ps : List Piece) (size : ℕ) → ArePieces space ps → 0 < size
     → IsLeastBlock ps space size (least_block ps space size)

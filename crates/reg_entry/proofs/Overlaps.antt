@@ -22,10 +22,11 @@ meets_from r p h k =
 pub not_held_unmet : (r : PlainRange) (p : Piece) (n : ℕ) → meets r p ≡ false → r.first ≤ n → n ≤ r.last → holds p n ≡ false
 not_held_unmet r p n e h k =
     elim (cases_Bool (holds p n)) [
-      inl held ↦
-        let inside = holds_true p n held in
-        absurd (both_ways (meets r p) e (meets_from r p (omega arith) (omega arith)))
-    | inr f ↦ f ]
+      | inl held ↦
+          let inside = holds_true p n held in
+          absurd (both_ways (meets r p) e (meets_from r p (omega arith) (omega arith)))
+      | inr f ↦ f
+    ]
 
 least_taken_in_rest : (ps qs : List Piece) (r : PlainRange) → ((n : ℕ) → r.first ≤ n → n ≤ r.last → piece_at qs n ≡ piece_at ps n)
     → (least : Option ℕ) → IsLeastTaken ps r least → IsLeastTaken qs r least
@@ -37,15 +38,18 @@ overlap_from : (low : ℕ) (ps : List Piece) (r : PlainRange) → RisesFrom low 
 overlap_from low [] r rises h = λ x k l. refl
 overlap_from low (p ∷ ps) r rises h =
     cond_both (meets r p) (Some p) (first_met ps r) (λ o. IsLeastTaken (p ∷ ps) r (option_map (λ q. max r.first q.range.first) o))
-      (λ e.
-        let met = meets_true r p e in
-        let n : ℕ = max r.first p.range.first in
-        let held : holds p n ≡ true = holds_from p n (omega arith) (omega arith) in
-        (omega arith, omega arith, ap is_some (piece_at-first p ps n held),
-         λ x k l. piece_at-below p.range.first (p ∷ ps) x (omega arith, rises.1, rises.2) (omega arith)))
-      (λ e.
-        least_taken_in_rest ps (p ∷ ps) r (λ n k l. piece_at-rest p ps n (not_held_unmet r p n e k l)) (overlap ps r)
-          (overlap_from (p.range.last + 1) ps r rises.2 h))
+    (λ e.
+    let met = meets_true r p e in
+    let n : ℕ = max r.first p.range.first in
+    let held : holds p n ≡ true = holds_from p n (omega arith) (omega arith) in (
+      omega arith,
+      omega arith,
+      ap is_some (piece_at-first p ps n held),
+      λ x k l. piece_at-below p.range.first (p ∷ ps) x (omega arith, rises.1, rises.2) (omega arith),
+    ))
+    (λ e.
+    least_taken_in_rest ps (p ∷ ps) r (λ n k l. piece_at-rest p ps n (not_held_unmet r p n e k l)) (overlap ps r)
+    (overlap_from (p.range.last + 1) ps r rises.2 h))
 
 pub overlap_is_least : (space : Space) (ps : List Piece) (r : PlainRange) → ArePieces space ps → IsRange r → IsLeastTaken ps r (overlap ps r)
 overlap_is_least space ps r h range = overlap_from 0 ps r h.rises range.0

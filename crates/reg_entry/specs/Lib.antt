@@ -4,3 +4,13 @@ pub mod Handle
 pub mod Pieces
 pub mod Partition
 pub mod Blocks
+pub mod Name
+pub mod Text
+pub mod Host
+pub mod Cc
+pub mod Servers
+pub mod Request
+pub mod Entry
+pub mod Op
+pub mod Rooms
+pub mod Policy
