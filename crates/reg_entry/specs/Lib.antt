@@ -14,3 +14,12 @@ pub mod Entry
 pub mod Op
 pub mod Rooms
 pub mod Policy
+pub mod Ranges
+pub mod Reshaping
+pub mod Entries
+pub mod Holders
+pub mod Register
+pub mod Sums
+pub mod Days
+pub mod Covers
+pub mod Decision

@@ -5,8 +5,8 @@ use Rattle.num_range.specs.declared.space.Space.{Space}
 use Rattle.num_range.specs.declared.space.Space.TheVariants.{Asn, Ipv4, Ipv6}
 use Rattle.reg_entry.specs.declared.kind.Kind.{Kind}
 use Rattle.reg_entry.specs.declared.kind.Kind.TheVariants.{Lir, EndUser}
-use Rattle.reg_entry.specs.declared.request.Delegation.{Delegation}
-use Rattle.reg_entry.specs.declared.request.Delegation.TheVariants.{Allocate, Assign}
+use Rattle.reg_entry.specs.declared.card.Status.{Status}
+use Rattle.reg_entry.specs.declared.card.Status.TheVariants.{Assigned}
 use Rattle.reg_entry.specs.declared.policy.Row.{Row}
 use Rattle.reg_entry.specs.declared.policy.ZoneTerms.{ZoneTerms}
 use Rattle.reg_entry.specs.Request.{has_size}
@@ -32,12 +32,12 @@ rows_of p Asn = p.asn
 rows_of p Ipv4 = p.ipv4
 rows_of p Ipv6 = p.ipv6
 
-abbrev pub row_in : PlainRows → Delegation → Row
-row_in rows Allocate = rows.allocated
-row_in rows Assign = rows.assigned
+abbrev pub row_in : PlainRows → Status → Row
+row_in rows Assigned = rows.assigned
+row_in rows status = rows.allocated
 
--- the row of a space and a status
-abbrev pub policy_row : PlainPolicy → Space → Delegation → Row
+-- the row of a space and of one of the two statuses of delegated pieces
+abbrev pub policy_row : PlainPolicy → Space → Status → Row
 policy_row p space status = row_in (rows_of p space) status
 
 -- the policy has a hostmaster of this name
@@ -54,4 +54,4 @@ abbrev pub IsRowOf : Space → Row → Type 0
 IsRowOf space row = (amount : ℕ) → row.least ≤ amount → amount ≤ row.most → has_size space amount ≡ true
 
 pub record IsPolicy (p : PlainPolicy) : Type 0 where
-  pub rows : (space : Space) (status : Delegation) → IsRowOf space (policy_row p space status)
+  pub rows : (space : Space) (status : Status) → IsRowOf space (policy_row p space status)

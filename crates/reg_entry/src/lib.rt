@@ -4,6 +4,7 @@
 mod card;
 mod cc;
 mod entry;
+mod found;
 mod handle;
 mod holder;
 mod host;
@@ -26,6 +27,7 @@ mod text;
 pub use card::{Card, Status};
 pub use cc::Cc;
 pub use entry::{Entry, Reply};
+pub use found::Found;
 pub use handle::Handle;
 pub use holder::Holder;
 pub use host::Host;
