@@ -23,3 +23,5 @@ pub mod Sums
 pub mod Days
 pub mod Covers
 pub mod Decision
+pub mod Next
+pub mod Objects
