@@ -2,3 +2,4 @@ pub mod Space
 pub mod Number
 pub mod Range
 pub mod Block
+pub mod Cover

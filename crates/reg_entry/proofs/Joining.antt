@@ -1,9 +1,18 @@
 -- Joining neighbours keeps what the pieces of a space are, and leaves none that can be joined.
-use Rattle.std.proofs.Common.{◌≡◌, ℕ, ◌+◌, ◌≤◌, Bool, true, false, List, [], ◌∷◌, refl, ap, sym, ◌∙◌, arith}
-use Rattle.std.proofs.lemmas.Bool.{cond_both, cond-false}
+use Rattle.std.proofs.Common.{◌≡◌, ℕ, ◌+◌, ◌≤◌, true, false, ◌&&◌, ◌==◌, List, [], ◌∷◌, refl, ap, sym, ◌∙◌, arith}
+use Rattle.std.proofs.lemmas.Bool.{cond_both, cond-false, and_parts, eqb-true}
 use Rattle.num_range.specs.declared.space.Space.{Space}
 use Rattle.reg_entry.specs.declared.piece.Piece.{Piece}
+use Rattle.reg_entry.specs.Card.{is_available}
 use Rattle.reg_entry.specs.Pieces.{can_join, joined_pair, joined_after, joined, RisesFrom, IsSettledAfter, IsSettled, IsPieceOf, AllPiecesOf}
+
+-- what two pieces that are joined have
+pub can_join_true : (p q : Piece) → can_join p q ≡ true
+    → (p.range.last + 1 ≡ q.range.first) × (is_available p.card.status ≡ true) × (is_available q.card.status ≡ true)
+can_join_true p q e =
+    let outer = and_parts ((p.range.last + 1 == q.range.first) && is_available p.card.status) (is_available q.card.status) e in
+    let inner = and_parts (p.range.last + 1 == q.range.first) (is_available p.card.status) outer.0 in
+    (eqb-true (p.range.last + 1) q.range.first inner.0, inner.1, outer.1)
 
 -- pieces that lie at or above a number lie at or above each lesser one
 pub rises_from_lower : (low high : ℕ) (ps : List Piece) → low ≤ high → RisesFrom high ps → RisesFrom low ps

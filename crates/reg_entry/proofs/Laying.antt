@@ -1,13 +1,13 @@
 -- Painting a card over a range of a space leaves pieces of the space.
-use Rattle.std.proofs.Common.{◌≡◌, ℕ, ◌+◌, ◌-◌, ◌<◌, ◌≤◌, min, max, Bool, true, false, nat_lt, List, [], ◌∷◌, ◌++◌, refl, ap, sym, ◌∙◌, arith, leb}
+use Rattle.std.proofs.Common.{◌≡◌, ℕ, ◌+◌, ◌-◌, ◌<◌, ◌≤◌, min, max, nat_lt, List, [], ◌∷◌, ◌++◌, arith}
 use Rattle.std.specs.List.{flat_map}
-use Rattle.std.proofs.lemmas.Bool.{cond_both, ltb-true, ltb-false}
+use Rattle.std.proofs.lemmas.Bool.{cond_both, ltb-true}
 use Rattle.num_range.specs.declared.space.Space.{Space}
 use Rattle.num_range.specs.Space.{top_of}
 use Rattle.num_range.specs.Range.{PlainRange, IsRange}
 use Rattle.reg_entry.specs.declared.card.Card.{Card}
 use Rattle.reg_entry.specs.declared.piece.Piece.{Piece}
-use Rattle.reg_entry.specs.Pieces.{part_below, part_above, joined, laid, RisesFrom, IsSettled, IsPoolRange, IsCard, IsPieceOf, AllPiecesOf, ArePieces}
+use Rattle.reg_entry.specs.Pieces.{part_below, part_above, laid, RisesFrom, IsPoolRange, IsCard, IsPieceOf, AllPiecesOf, ArePieces}
 use Rattle.reg_entry.proofs.Joining.{rises_from_lower, joined_rises, joined_pieces, joined_settled}
 
 -- the piece of `part_below`, where there is one
@@ -42,10 +42,12 @@ above_rises low r (p ∷ ps) rises =
     (omega arith, omega arith, rises_from_lower (p.range.last + 1) next (flat_map (part_above r) ps) (omega arith) above))
     (λ e. rises_from_lower (max low (r.last + 1)) next (flat_map (part_above r) ps) (omega arith) above)
 
--- painting before the joining rises
-pub parts_rise : (ps : List Piece) (r : PlainRange) (c : Card) → RisesFrom 0 ps → r.first ≤ r.last
-    → RisesFrom 0 (flat_map (part_below r) ps ++ record { range = r; card = c } ∷ flat_map (part_above r) ps)
-parts_rise ps r c rises h =
+-- the pieces after the painting and before the joining
+abbrev pub painted_parts : List Piece → PlainRange → Card → List Piece
+painted_parts ps r c = flat_map (part_below r) ps ++ record { range = r; card = c } ∷ flat_map (part_above r) ps
+
+pub painted_parts_rise : (ps : List Piece) (r : PlainRange) (c : Card) → RisesFrom 0 ps → r.first ≤ r.last → RisesFrom 0 (painted_parts ps r c)
+painted_parts_rise ps r c rises h =
     below_rises 0 r ps (record { range = r; card = c } ∷ flat_map (part_above r) ps) (omega arith) rises
     (omega arith, h, rises_from_lower (r.last + 1) (max 0 (r.last + 1)) (flat_map (part_above r) ps) (omega arith) (above_rises 0 r ps rises))
 
@@ -83,15 +85,19 @@ above_pieces space r (p ∷ ps) h =
     (λ e. (kept_above_is_piece space r p h.0, above_pieces space r ps h.1))
     (λ e. above_pieces space r ps h.1)
 
+pub painted_parts_are_pieces : (space : Space) (ps : List Piece) (r : PlainRange) (c : Card) → AllPiecesOf space ps
+    → IsPieceOf space (record { range = r; card = c }) → AllPiecesOf space (painted_parts ps r c)
+painted_parts_are_pieces space ps r c h new =
+    all_pieces-append space (flat_map (part_below r) ps) (record { range = r; card = c } ∷ flat_map (part_above r) ps)
+    (below_pieces space r ps h) (new, above_pieces space r ps h)
+
 pub laid_keeps : (space : Space) (ps : List Piece) (r : PlainRange) (c : Card) → ArePieces space ps → r.space ≡ space → IsRange r
     → IsPoolRange r → IsCard c → ArePieces space (laid ps r c)
 laid_keeps space ps r c h of_space range pooled card =
-    let parts : List Piece = flat_map (part_below r) ps ++ record { range = r; card = c } ∷ flat_map (part_above r) ps in
     let new : IsPieceOf space (record { range = r; card = c }) =
     record { of_space = of_space; within = rw (← of_space) range.1; pooled = pooled; plain = card } in
     record {
-      rises = joined_rises 0 parts (parts_rise ps r c h.rises range.0);
-      settled = joined_settled parts;
-      each = joined_pieces space parts (all_pieces-append space (flat_map (part_below r) ps) (record { range = r; card = c } ∷ flat_map (part_above r) ps)
-          (below_pieces space r ps h.each) (new, above_pieces space r ps h.each));
+      rises = joined_rises 0 (painted_parts ps r c) (painted_parts_rise ps r c h.rises range.0);
+      settled = joined_settled (painted_parts ps r c);
+      each = joined_pieces space (painted_parts ps r c) (painted_parts_are_pieces space ps r c h.each new);
     }

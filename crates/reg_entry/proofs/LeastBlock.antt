@@ -1,5 +1,5 @@
 -- The block that is taken is the least free one.
-use Rattle.std.proofs.Common.{◌≡◌, ℕ, ◌+◌, ◌-◌, ◌*◌, ◌/◌, ◌%◌, ◌<◌, ◌≤◌, Bool, true, false, ◌&&◌, ◌||◌, ◌==◌, nat_le, ◌⊎◌, inl, inr, List, [], ◌∷◌, Option, None, Some, refl, ap, sym, ◌∙◌, arith}
+use Rattle.std.proofs.Common.{◌≡◌, ℕ, ◌+◌, ◌-◌, ◌*◌, ◌/◌, ◌%◌, ◌<◌, ◌≤◌, true, false, ◌&&◌, ◌==◌, nat_le, ◌⊎◌, inl, inr, List, [], ◌∷◌, Option, None, Some, arith}
 use Rattle.std.proofs.Math.Nat.{mul-mod_left}
 use Rattle.std.proofs.lemmas.Nat.{div-add-mod', mod_below, div_below, mul-le}
 use Rattle.std.proofs.lemmas.Bool.{cond_both, and_parts, and_from, or_cases, or_left, or_right, le-leb, leb-true, eq-eqb, both_ways, false≢true, cases_lt}
@@ -8,7 +8,7 @@ use Rattle.num_range.specs.declared.space.Space.TheVariants.{Asn, Ipv4, Ipv6}
 use Rattle.num_range.specs.Space.{top_of}
 use Rattle.reg_entry.specs.declared.piece.Piece.{Piece}
 use Rattle.reg_entry.specs.Card.{is_available}
-use Rattle.reg_entry.specs.Pieces.{holds, can_join, RisesFrom, IsSettledAfter, IsSettled, IsPieceOf, AllPiecesOf, ArePieces}
+use Rattle.reg_entry.specs.Pieces.{holds, can_join, RisesFrom, IsSettledAfter, IsSettled, AllPiecesOf, ArePieces}
 use Rattle.reg_entry.specs.Blocks.{is_free, alignment, IsFreeBlock, IsLeastBlock, rounded_up, least_block}
 use Rattle.reg_entry.proofs.Holding.{holds_true, holds_from}
 

@@ -5,3 +5,5 @@ pub mod Laying
 pub mod Holding
 pub mod LeastBlock
 pub mod Overlaps
+pub mod Lookups
+pub mod Sizes

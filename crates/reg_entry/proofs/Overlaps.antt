@@ -1,6 +1,5 @@
 -- The overlap of a range with the pieces is the least of its numbers that some piece holds.
-use Rattle.std.proofs.Common.{◌≡◌, ℕ, ◌+◌, ◌<◌, ◌≤◌, max, Bool, true, false, ◌&&◌, nat_le, inl, inr, List, [], ◌∷◌, Option, None, Some, refl, ap, sym, ◌∙◌, arith}
-use Rattle.std.specs.List.{find}
+use Rattle.std.proofs.Common.{◌≡◌, ℕ, ◌+◌, ◌≤◌, max, true, false, nat_le, inl, inr, List, [], ◌∷◌, Option, None, Some, refl, ap, ◌∙◌, arith}
 use Rattle.std.specs.Option.{option_map, is_some}
 use Rattle.std.proofs.lemmas.Bool.{cond_both, and_parts, and_from, both_ways, cases_Bool, le-leb, leb-true}
 use Rattle.num_range.specs.declared.space.Space.{Space}

@@ -1,13 +1,12 @@
 -- The definitions tried on worked examples: each computes.
-use Rattle.std.proofs.Common.{◌≡◌, ℕ, List, [], ◌∷◌, Option, None, Some, refl}
-use Rattle.num_range.specs.declared.space.Space.{Space}
+use Rattle.std.proofs.Common.{◌≡◌, ℕ, List, [], ◌∷◌, None, Some, refl}
 use Rattle.num_range.specs.declared.space.Space.TheVariants.{Ipv4}
 use Rattle.reg_entry.specs.declared.card.Card.{Card}
 use Rattle.reg_entry.specs.declared.card.Status.TheVariants.{Allocated, Reserved}
 use Rattle.reg_entry.specs.declared.piece.Piece.{Piece}
 use Rattle.num_range.specs.Range.{PlainRange}
 use Rattle.reg_entry.specs.Card.{plain_card}
-use Rattle.reg_entry.specs.Pieces.{laid, overlap}
+use Rattle.reg_entry.specs.Pieces.{card_at, laid, overlap, size_sum}
 use Rattle.reg_entry.specs.Blocks.{least_block}
 
 abbrev range4 : ℕ → ℕ → PlainRange
@@ -48,3 +47,15 @@ next_block = refl
 -- touching blocks that are received one after the other are one piece
 touching : laid received (range4 0xc0000300 0xc00003ff) plain_card ≡ piece4 0xc0000200 0xc00003ff plain_card ∷ []
 touching = refl
+
+card_of_delegated : card_at delegated 0xc000023f ≡ Some allocated
+card_of_delegated = refl
+
+card_of_rest : card_at delegated 0xc0000240 ≡ Some plain_card
+card_of_rest = refl
+
+card_of_none : card_at delegated 0xc0000300 ≡ None
+card_of_none = refl
+
+size_stays : size_sum delegated ≡ 256
+size_stays = refl

@@ -5,7 +5,7 @@ use Rattle.std.specs.Option.{option_map}
 use Rattle.num_range.specs.declared.space.Space.{Space}
 use Rattle.num_range.specs.declared.space.Space.TheVariants.{Asn, Ipv4, Ipv6}
 use Rattle.num_range.specs.Space.{top_of}
-use Rattle.num_range.specs.Range.{PlainRange}
+use Rattle.num_range.specs.Range.{PlainRange, size_of}
 use Rattle.reg_entry.specs.declared.card.Card.{Card}
 use Rattle.reg_entry.specs.declared.piece.Piece.{Piece}
 use Rattle.reg_entry.specs.Card.{is_available, plain_card}
@@ -24,6 +24,10 @@ meets r p = nat_le p.range.first r.last && nat_le r.first p.range.last
 abbrev pub piece_at : List Piece → ℕ → Option Piece
 piece_at ps x = find (λ p. holds p x) ps
 
+-- the card of the piece that holds the value
+abbrev pub card_at : List Piece → ℕ → Option Card
+card_at ps x = option_map (λ p. p.card) (piece_at ps x)
+
 -- the first piece that has a number in common with the range
 abbrev pub first_met : List Piece → PlainRange → Option Piece
 first_met ps r = find (meets r) ps
@@ -37,6 +41,11 @@ abbrev pub IsLeastTaken : List Piece → PlainRange → Option ℕ → Type 0
 IsLeastTaken ps r None = (x : ℕ) → r.first ≤ x → x ≤ r.last → piece_at ps x ≡ None
 IsLeastTaken ps r (Some n) =
     (r.first ≤ n) × (n ≤ r.last) × IsSome (piece_at ps n) × ((x : ℕ) → r.first ≤ x → x < n → piece_at ps x ≡ None)
+
+-- how many numbers the pieces have in all
+abbrev pub size_sum : List Piece → ℕ
+size_sum [] = 0
+size_sum (p ∷ ps) = size_of p.range + size_sum ps
 
 -- ---- painting
 

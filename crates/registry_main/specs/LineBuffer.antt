@@ -1,0 +1,12 @@
+-- The front of a line, as much of it as decides what it is answered.
+use Rattle.std.specs.Prelude.{◌≡◌, ℕ, Bool, false, ◌==◌, List, [], ◌∷◌, ◌++◌}
+use Rattle.registry_main.specs.Session.{Register, replies_to}
+
+-- no line ends in the text
+abbrev pub HasNoNewline : List ℕ → Type 0
+HasNoNewline [] = Unit {0}
+HasNoNewline (b ∷ bs) = ((b == 10) ≡ false) × HasNoNewline bs
+
+-- whatever comes behind it, the one text is answered as the other
+abbrev pub IsAnsweredAs : List ℕ → List ℕ → Type 0
+IsAnsweredAs text other = (day : ℕ) (r : Register) (tail : List ℕ) → replies_to day r (text ++ tail) ≡ replies_to day r (other ++ tail)
