@@ -1,5 +1,6 @@
 pub mod Padding
 mod Rows
+mod RegisterRows
 pub mod Joining
 pub mod Laying
 pub mod Holding

@@ -110,9 +110,9 @@ unknown_holder r handle = refuse_if (not (is_some (holder_number r.holders handl
 abbrev pub not_holder : Register → PlainRange → List ℕ → Option Refusal
 not_holder r range handle =
     on_piece r (first_number range) (λ p.
-      option_and_then
-        (λ holder. refuse_if (not (option_eq nat_eq (Some holder) (holder_number r.holders handle))) (NotHolder (handle_at r.holders holder)))
-        p.card.holder)
+    option_and_then
+    (λ holder. refuse_if (not (option_eq nat_eq (Some holder) (holder_number r.holders handle))) (NotHolder (handle_at r.holders holder)))
+    p.card.holder)
 
 abbrev pub handle_taken : Register → List ℕ → Option Refusal
 handle_taken r handle = refuse_if (is_some (holder_number r.holders handle)) HandleTaken
@@ -135,7 +135,7 @@ meets_sub r range = overlap_at range.space (option_map (λ s. first_common range
 abbrev pub meets_reverse : Register → PlainRange → Option Refusal
 meets_reverse r range =
     overlap_at range.space
-      (option_map (λ s. first_common range s.0) (first_meeting (filter (λ s. not (same_range s.0 range)) r.reverses) range))
+    (option_map (λ s. first_common range s.0) (first_meeting (filter (λ s. not (same_range s.0 range)) r.reverses) range))
 
 abbrev pub no_sub : Register → PlainRange → Option Refusal
 no_sub r range = refuse_if (not (is_some (value_of_range r.subs range))) NoSub
@@ -159,18 +159,18 @@ kind_left_out r row handle =
 abbrev pub over_cap : Register → Row → Space → List ℕ → ℕ → Option Refusal
 over_cap r row space handle more =
     option_and_then
-      (λ holder. refuse_if (nat_lt row.cap (held r holder space + more)) (OverCap (held r holder space + more) row.cap))
-      (holder_number r.holders handle)
+    (λ holder. refuse_if (nat_lt row.cap (held r holder space + more)) (OverCap (held r holder space + more) row.cap))
+    (holder_number r.holders handle)
 
 -- too few of the holder's allocated numbers are sub-assigned
 abbrev pub under_used : Register → Row → Space → List ℕ → Option Refusal
 under_used r row space handle =
     option_and_then
-      (λ holder.
-        refuse_if
-          (nat_lt 0 (allocated r holder space) && nat_lt (used r holder space) (allocated r holder space * row.percent / 100))
-          (UnderUsed (used r holder space) (allocated r holder space)))
-      (holder_number r.holders handle)
+    (λ holder.
+    refuse_if
+    (nat_lt 0 (allocated r holder space) && nat_lt (used r holder space) (allocated r holder space * row.percent / 100))
+    (UnderUsed (used r holder space) (allocated r holder space)))
+    (holder_number r.holders handle)
 
 abbrev pub within_hold_time : Register → PlainRange → ℕ → Option Refusal
 within_hold_time r range day = on_piece r (first_number range) (λ p. refuse_if (nat_lt day p.card.until) (HoldTime p.card.until))
@@ -205,7 +205,7 @@ no_reverse_space range = refuse_if (of_asn range.space) NoReverseSpace
 abbrev pub register_full : Register → Request → Option PlainRange → Option Card → Option Refusal
 register_full r request cover card =
     refuse_if (nat_lt r.rooms.pieces (piece_count (pool_after request cover card r.pool)))
-      (RegisterFull (piece_count (pool_after request cover card r.pool)) r.rooms.pieces)
+    (RegisterFull (piece_count (pool_after request cover card r.pool)) r.rooms.pieces)
 
 abbrev pub holders_full : Register → Option Refusal
 holders_full r = refuse_if (nat_le r.rooms.holders (length r.holders)) (HoldersFull r.rooms.holders)
@@ -267,7 +267,7 @@ transferred_size r p to = if option_eq nat_eq p.card.holder (holder_number r.hol
 abbrev pub transfer_rules : Register → PlainPolicy → Space → List ℕ → Piece → Option Refusal
 transfer_rules r p space to piece =
     option_or (kind_left_out r (policy_row p space piece.card.status) to)
-      (over_cap r (policy_row p space piece.card.status) space to (transferred_size r piece to))
+    (over_cap r (policy_row p space piece.card.status) space to (transferred_size r piece to))
 
 -- whether the policy allows it
 abbrev pub policy_rules : Register → PlainPolicy → Request → List (Option Refusal)
@@ -310,13 +310,13 @@ entry_day r day = max (clamped_day day) r.last_day
 -- the entry that the request becomes where nothing is against it
 abbrev pub proposed_entry : Register → PlainPolicy → ℕ → List ℕ → Request → PlainEntry
 proposed_entry r p day who request = record {
-    seq = r.entries + 1;
-    day = entry_day r day;
-    who = who;
-    request = request;
-    cover = cover_for r request (chosen_start r request);
-    card = card_for r request (entry_day r day) (until_for p request (entry_day r day));
-  }
+  seq = r.entries + 1;
+  day = entry_day r day;
+  who = who;
+  request = request;
+  cover = cover_for r request (chosen_start r request);
+  card = card_for r request (entry_day r day) (until_for p request (entry_day r day));
+}
 
 abbrev pub late_refusal : Register → PlainEntry → Option Refusal
 late_refusal r e = first_of (late_rules r e.request e.day e.cover e.card)
@@ -325,8 +325,8 @@ late_refusal r e = first_of (late_rules r e.request e.day e.cover e.card)
 abbrev pub refusal_of : Register → PlainPolicy → ℕ → List ℕ → Request → Option Refusal
 refusal_of r p day who request =
     option_or (unknown_hostmaster p who)
-      (option_or (first_of (early_rules r request))
-        (option_or (first_of (policy_rules r p request)) (late_refusal r (proposed_entry r p day who request))))
+    (option_or (first_of (early_rules r request))
+    (option_or (first_of (policy_rules r p request)) (late_refusal r (proposed_entry r p day who request))))
 
 abbrev pub reply_of : Option Refusal → PlainEntry → Reply
 reply_of None e = Accepted e

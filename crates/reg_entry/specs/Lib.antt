@@ -25,3 +25,5 @@ pub mod Covers
 pub mod Decision
 pub mod Next
 pub mod Objects
+pub mod Operations
+pub mod Whole

@@ -4,6 +4,7 @@ use Rattle.std.specs.Prelude.{ℕ, ◌+◌, Bool, true, false, not, ◌&&◌, �
 use Rattle.std.specs.Option.{is_some, is_none, option_eq, option_map_or}
 use Rattle.std.specs.List.{flat_map}
 use Rattle.num_range.specs.Range.{PlainRange}
+use Rattle.num_range.specs.Cover.{reverse_cuts}
 use Rattle.reg_entry.specs.declared.holder.Holder.{Holder}
 use Rattle.reg_entry.specs.declared.kind.Kind.{Kind}
 use Rattle.reg_entry.specs.declared.kind.Kind.TheVariants.{Lir, EndUser}
@@ -112,6 +113,18 @@ block_of_piece hs p = Block p.range p.card.status (handle_of hs p.card.holder) p
 
 abbrev pub sub_of : List (Holder × ℕ) → PlainRange × SubCard → Object
 sub_of hs s = Sub s.0 (handle_at hs s.1.holder) s.1.day
+
+-- a reverse entry has an object for each block at which its zones are cut
+abbrev pub cuts_of : PlainRange × List (List ℕ) → List Object
+cuts_of s = map (λ block. Cut block s.1) (reverse_cuts s.0)
+
+abbrev pub blocks_of : List (Holder × ℕ) → List Piece → List Object
+blocks_of hs ps = map (block_of_piece hs) ps
+
+abbrev pub objects_of : Register → List Object
+objects_of r =
+    orgs_of r.holders ++ blocks_of r.holders r.pool.asn ++ blocks_of r.holders r.pool.ipv4 ++ blocks_of r.holders r.pool.ipv6
+    ++ map (sub_of r.holders) r.subs ++ flat_map cuts_of r.reverses
 
 -- ---- changes
 

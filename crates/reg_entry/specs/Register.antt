@@ -12,7 +12,7 @@ use Rattle.reg_entry.specs.declared.sub_card.SubCard.{SubCard}
 use Rattle.reg_entry.specs.declared.request.Request.{Request}
 use Rattle.reg_entry.specs.declared.request.Request.TheVariants.{AddHolder, EditHolder, SubAssign, SubReturn, Return, Split, Join, SetReverse, ClearReverse}
 use Rattle.reg_entry.specs.Entry.{PlainEntry}
-use Rattle.reg_entry.specs.Pieces.{piece_at, laid}
+use Rattle.reg_entry.specs.Pieces.{piece_at, card_at, laid}
 use Rattle.reg_entry.specs.Partition.{Partition, pieces_in, with_pieces, empty_partition}
 use Rattle.reg_entry.specs.Reshaping.{split_at_number, joined_at}
 use Rattle.reg_entry.specs.Ranges.{with_range, without_range, without_inside}
@@ -31,15 +31,15 @@ pub record Register : Type 0 where
 -- the register of no entry
 abbrev pub empty_register : Rooms → Register
 empty_register rooms = record {
-    rooms = rooms;
-    entries = 0;
-    first_day = 0;
-    last_day = 0;
-    pool = empty_partition;
-    holders = [];
-    subs = [];
-    reverses = [];
-  }
+  rooms = rooms;
+  entries = 0;
+  first_day = 0;
+  last_day = 0;
+  pool = empty_partition;
+  holders = [];
+  subs = [];
+  reverses = [];
+}
 
 -- ---- looking up
 
@@ -52,7 +52,7 @@ piece_of pool n = piece_at (pieces_in pool n.space) n.value
 
 -- the card of the number
 abbrev pub card_of : Partition → PlainNumber → Option Card
-card_of pool n = option_map (λ p. p.card) (piece_of pool n)
+card_of pool n = card_at (pieces_in pool n.space) n.value
 
 -- ---- the pool after an entry
 
@@ -97,15 +97,15 @@ reverses_after request reverses = reverses
 -- the register after one entry more
 abbrev pub after_entry : Register → PlainEntry → Register
 after_entry r e = record {
-    rooms = r.rooms;
-    entries = r.entries + 1;
-    first_day = if r.entries == 0 then e.day else r.first_day;
-    last_day = e.day;
-    pool = pool_after e.request e.cover e.card r.pool;
-    holders = holders_after e.request e.day r.holders;
-    subs = subs_after e.request e.day r.holders r.subs;
-    reverses = reverses_after e.request r.reverses;
-  }
+  rooms = r.rooms;
+  entries = r.entries + 1;
+  first_day = if r.entries == 0 then e.day else r.first_day;
+  last_day = e.day;
+  pool = pool_after e.request e.cover e.card r.pool;
+  holders = holders_after e.request e.day r.holders;
+  subs = subs_after e.request e.day r.holders r.subs;
+  reverses = reverses_after e.request r.reverses;
+}
 
 abbrev pub after_entries : Register → List PlainEntry → Register
 after_entries r [] = r

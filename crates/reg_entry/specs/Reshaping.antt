@@ -13,7 +13,7 @@ abbrev pub split_piece : ℕ → Piece → List Piece
 split_piece at p =
     if holds_past_first p at
     then record { range = record { space = p.range.space; first = p.range.first; last = at - 1 }; card = p.card }
-      ∷ record { range = record { space = p.range.space; first = at; last = p.range.last }; card = p.card } ∷ []
+    ∷ record { range = record { space = p.range.space; first = at; last = p.range.last }; card = p.card } ∷ []
     else p ∷ []
 
 -- the pieces after the one that holds the number was split before it

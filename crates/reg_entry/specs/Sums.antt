@@ -11,14 +11,9 @@ use Rattle.reg_entry.specs.declared.found.Found.{Found}
 use Rattle.reg_entry.specs.declared.found.Found.TheVariants.{Piece as ThePiece, Sub}
 use Rattle.reg_entry.specs.declared.sub_card.SubCard.{SubCard}
 use Rattle.reg_entry.specs.Card.{same_status, is_delegated}
-use Rattle.reg_entry.specs.Partition.{pieces_in}
+use Rattle.reg_entry.specs.Pieces.{size_sum}
 use Rattle.reg_entry.specs.Ranges.{lies_inside}
 use Rattle.reg_entry.specs.Register.{Register, register_pieces, piece_of}
-
--- how many numbers the pieces have
-abbrev pub pieces_size : List Piece → ℕ
-pieces_size [] = 0
-pieces_size (p ∷ ps) = size_of p.range + pieces_size ps
 
 -- how many numbers the ranges have
 abbrev pub ranges_size : List (PlainRange × SubCard) → ℕ
@@ -27,7 +22,7 @@ ranges_size (s ∷ ss) = size_of s.0 + ranges_size ss
 
 -- the numbers of a space that have a status
 abbrev pub status_sum : Register → Space → Status → ℕ
-status_sum r space status = pieces_size (filter (λ p. same_status p.card.status status) (register_pieces r space))
+status_sum r space status = size_sum (filter (λ p. same_status p.card.status status) (register_pieces r space))
 
 abbrev pub is_held_by : ℕ → Piece → Bool
 is_held_by holder p = is_delegated p.card.status && option_eq nat_eq p.card.holder (Some holder)
@@ -37,11 +32,11 @@ is_allocated_to holder p = same_status p.card.status Allocated && option_eq nat_
 
 -- the numbers of a space that are delegated to a holder
 abbrev pub held : Register → ℕ → Space → ℕ
-held r holder space = pieces_size (filter (is_held_by holder) (register_pieces r space))
+held r holder space = size_sum (filter (is_held_by holder) (register_pieces r space))
 
 -- the numbers of a space that are allocated to a holder
 abbrev pub allocated : Register → ℕ → Space → ℕ
-allocated r holder space = pieces_size (filter (is_allocated_to holder) (register_pieces r space))
+allocated r holder space = size_sum (filter (is_allocated_to holder) (register_pieces r space))
 
 -- the range lies inside one of the pieces
 abbrev pub lies_in_one : List Piece → PlainRange → Bool
