@@ -300,18 +300,14 @@ no_reverse_names_of_as_numbers = refl
 -- ---- the stream
 
 -- the objects of the register are those that its operations lead to, and each number has the card of its last entry
-abbrev day_of_work : List (ℕ × Request)
-day_of_work =
-    start ++ on march (AddHolder beta ∷ prefix 25 ∷ SubAssign (net 32 63) a ∷ Split (host 64) ∷ Transfer (net 64 127) a b ∷ Reserve (net 200 201) ∷ [])
-
 abbrev worked : List PlainEntry
-worked = entries_of ample (empty_register large) day_of_work
+worked = entries_of ample (empty_register large) (on march (Receive (net 0 255) ∷ Reserve (net 0 63) ∷ Reserve (net 96 99) ∷ Unreserve (net 0 63) ∷ []))
 
 stream_leads_to_objects : objects_after (operations_of large worked) ≡ objects_of (register_after large worked)
 unfolding reverse_cuts blocks_inside
 stream_leads_to_objects = refl
 
 last_cards_stand :
-    map (λ n. card_of (register_after large worked).pool (host n)) (0 ∷ 32 ∷ 63 ∷ 64 ∷ 127 ∷ 128 ∷ 200 ∷ 255 ∷ 256 ∷ [])
-    ≡ map (λ n. last_card worked (host n)) (0 ∷ 32 ∷ 63 ∷ 64 ∷ 127 ∷ 128 ∷ 200 ∷ 255 ∷ 256 ∷ [])
+  map (λ n. card_of (register_after large worked).pool (host n)) (0 ∷ 63 ∷ 64 ∷ 96 ∷ 99 ∷ 100 ∷ 255 ∷ 256 ∷ [])
+    ≡ map (λ n. last_card worked (host n)) (0 ∷ 63 ∷ 64 ∷ 96 ∷ 99 ∷ 100 ∷ 255 ∷ 256 ∷ [])
 last_cards_stand = refl
