@@ -1,5 +1,7 @@
 pub mod Padding
 mod Rows
+pub mod Calendar
+pub mod DayTexts
 mod RegisterRows
 pub mod Joining
 pub mod Laying

@@ -308,6 +308,6 @@ unfolding reverse_cuts blocks_inside
 stream_leads_to_objects = refl
 
 last_cards_stand :
-  map (λ n. card_of (register_after large worked).pool (host n)) (0 ∷ 63 ∷ 64 ∷ 96 ∷ 99 ∷ 100 ∷ 255 ∷ 256 ∷ [])
+    map (λ n. card_of (register_after large worked).pool (host n)) (0 ∷ 63 ∷ 64 ∷ 96 ∷ 99 ∷ 100 ∷ 255 ∷ 256 ∷ [])
     ≡ map (λ n. last_card worked (host n)) (0 ∷ 63 ∷ 64 ∷ 96 ∷ 99 ∷ 100 ∷ 255 ∷ 256 ∷ [])
 last_cards_stand = refl

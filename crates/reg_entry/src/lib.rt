@@ -3,6 +3,7 @@
 
 mod card;
 mod cc;
+mod days;
 mod entry;
 mod found;
 mod handle;
@@ -26,6 +27,7 @@ mod text;
 
 pub use card::{Card, Status};
 pub use cc::Cc;
+pub use days::{day_text, read_day};
 pub use entry::{Entry, Reply};
 pub use found::Found;
 pub use handle::Handle;
