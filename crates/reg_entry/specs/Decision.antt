@@ -334,3 +334,8 @@ reply_of (Some refusal) e = Refused refusal
 
 abbrev pub decision : Register → PlainPolicy → ℕ → List ℕ → Request → Reply
 decision r p day who request = reply_of (refusal_of r p day who request) (proposed_entry r p day who request)
+
+-- the fact, of the entry that an accepted request becomes
+abbrev pub IfAccepted : Reply → (PlainEntry → Type 0) → Type 0
+IfAccepted (Accepted e) P = P e
+IfAccepted (Refused refusal) P = Unit {0}

@@ -1,6 +1,6 @@
 -- What the register publishes: an object for each piece, sub, holder and reverse cut (the classes are RFC 2622's, but for
 -- the sub-assignment), and the operations that lead from one state of the objects to the next.
-use Rattle.std.specs.Prelude.{ℕ, ◌+◌, Bool, true, false, not, ◌&&◌, ◌||◌, ◌==◌, nat_eq, nat_lt, if◌then◌else◌, List, [], ◌∷◌, ◌++◌, Option, None, Some, filter, map, find, fold, bytes_eq}
+use Rattle.std.specs.Prelude.{◌≡◌, ℕ, ◌+◌, Bool, true, false, not, ◌&&◌, ◌||◌, ◌==◌, nat_eq, nat_lt, if◌then◌else◌, List, [], ◌∷◌, ◌++◌, Option, None, Some, filter, map, find, fold, bytes_eq}
 use Rattle.std.specs.Option.{is_some, is_none, option_eq, option_map_or}
 use Rattle.std.specs.List.{flat_map}
 use Rattle.num_range.specs.Range.{PlainRange}
@@ -87,6 +87,10 @@ has_key k o = same_key (key_of o) k
 -- the object of a key
 abbrev pub object_at : List Object → Key → Option Object
 object_at os k = find (has_key k) os
+
+abbrev pub HaveDistinctKeys : List Object → Type 0
+HaveDistinctKeys [] = Unit {0}
+HaveDistinctKeys (o ∷ os) = (object_at os (key_of o) ≡ None) × HaveDistinctKeys os
 
 -- the map with this object, in the place of its key
 abbrev pub with_object : List Object → Object → List Object

@@ -24,6 +24,7 @@ mod sub_card;
 #[cfg(test)]
 mod tests;
 mod text;
+mod touched;
 
 pub use card::{Card, Status};
 pub use cc::Cc;
@@ -45,3 +46,4 @@ pub use rooms::Rooms;
 pub use servers::{SERVER_ROOM, Servers};
 pub use sub_card::SubCard;
 pub use text::Text;
+pub use touched::Touched;

@@ -1,5 +1,6 @@
 //! That each type of the register can be kept in a list of the library's.
 use crate::*;
+use arrayvec::ArrayVec;
 use num_range::{Range, Space};
 use std::test::Fail;
 
