@@ -1,0 +1,4 @@
+//! Laws over the register's definitions, each proved as the contract of a function that does nothing.
+#![tactic(auto)]
+
+pub mod objects;
