@@ -1,4 +1,5 @@
 //! Laws over the register's definitions, each proved as the contract of a function that does nothing.
 #![tactic(auto)]
 
+pub mod next;
 pub mod objects;
