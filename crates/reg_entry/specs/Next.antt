@@ -13,7 +13,7 @@ use Rattle.reg_entry.specs.declared.request.Request.{Request}
 use Rattle.reg_entry.specs.declared.request.Request.TheVariants.{Delegate, Return, Transfer}
 use Rattle.reg_entry.specs.Entry.{PlainEntry}
 use Rattle.reg_entry.specs.Card.{is_available, same_card}
-use Rattle.reg_entry.specs.Request.{amount_size, has_size}
+use Rattle.reg_entry.specs.Request.{amount_size, has_size, is_request}
 use Rattle.reg_entry.specs.Blocks.{alignment}
 use Rattle.reg_entry.specs.Pieces.{holds}
 use Rattle.reg_entry.specs.Ranges.{same_range}
@@ -64,7 +64,7 @@ same_painted = option_eq same_card
 -- the entry's number, day, block, until, cover and card are right, and no rule of the register is against it
 abbrev pub may_come_next : Register → PlainEntry → Bool
 may_come_next r e =
-    (e.seq == r.entries + 1) && day_may_be r e.day
+    is_request e.request && (e.seq == r.entries + 1) && day_may_be r e.day
     && is_none (first_of (early_rules r e.request)) && block_may_be r e.request (start_of e.cover)
     && until_may_be e.request e.day (until_of e.card) && is_none (late_refusal r e)
     && same_cover e.cover (cover_for r e.request (start_of e.cover))

@@ -1,4 +1,4 @@
-ghost use Rattle.std.specs.Prelude.{◌≡◌};
+ghost use Rattle.std.specs.Prelude.{◌≡◌, IsTrue};
 
 use crate::{Handle, Holder, Servers, Status};
 use num_range::{Number, Range, Space};
@@ -92,4 +92,34 @@ pub enum Request {
     ClearReverse {
         range: Range,
     },
+}
+
+impl Request {
+    ghost use Rattle.reg_entry.specs.Request.{is_request};
+
+    /// Tells callers that the request's ranges and numbers are those of their spaces, as their types keep them.
+    pub fn has_ranges(&self)
+        ensures { IsTrue (is_request self.now) }
+    {
+        match self {
+            Request::Receive { range }
+            | Request::Reserve { range }
+            | Request::Unreserve { range }
+            | Request::SubReturn { range }
+            | Request::Release { range }
+            | Request::ClearReverse { range } => {
+                let _ = range.first();
+            }
+            Request::SubAssign { range, .. }
+            | Request::Return { range, .. }
+            | Request::Transfer { range, .. }
+            | Request::SetReverse { range, .. } => {
+                let _ = range.first();
+            }
+            Request::Split { at } | Request::Join { at } => {
+                let _ = at.value();
+            }
+            Request::AddHolder { .. } | Request::EditHolder { .. } | Request::Delegate { .. } => {}
+        }
+    }
 }

@@ -19,7 +19,7 @@ use Rattle.reg_entry.specs.declared.request.Request.{Request}
 use Rattle.reg_entry.specs.declared.request.Request.TheVariants.{Receive, AddHolder, EditHolder, Delegate, Reserve, Unreserve, SubAssign, SubReturn, Return, Release, Split, Join, Transfer, SetReverse, ClearReverse}
 use Rattle.reg_entry.specs.Entry.{PlainEntry}
 use Rattle.reg_entry.specs.Card.{is_available}
-use Rattle.reg_entry.specs.Request.{status_of, amount_size, has_size, IsRequest}
+use Rattle.reg_entry.specs.Request.{status_of, amount_size, has_size, is_range, is_request}
 use Rattle.reg_entry.specs.Policy.{PlainPolicy, policy_row, IsPolicy}
 use Rattle.reg_entry.specs.Pieces.{holds, piece_at, RisesFrom, AllPiecesOf, ArePieces}
 use Rattle.reg_entry.specs.Partition.{pieces_in, IsPartition}
@@ -60,6 +60,11 @@ held_first (p ∷ ps) x last h e =
           let same : least_missing ps x last ≡ None = ap (λ y. least_missing ps y last) (sym (cond-false (holds p x) (p.range.last + 1) x f)) ∙ e in
           ap is_some (cond-false (holds p x) (Some p) (piece_at ps x) f) ∙ held_first ps x last h same
     ]
+
+pub range_valid : (r : PlainRange) → is_range r ≡ true → IsRange r
+range_valid r e =
+    let p = and_parts (nat_le r.first r.last) (nat_le r.last (top_of r.space)) e in
+    (leb-true r.first r.last p.0, leb-true r.last (top_of r.space) p.1)
 
 pub first_in_pool : (r : Register) (range : PlainRange) → IsRange range → outside_pool r range ≡ None
     → is_some (piece_of r.pool (first_number range)) ≡ true
@@ -125,7 +130,7 @@ pub record CanDecide (r : Register) (p : PlainPolicy) (request : Request) : Type
   pub pool : IsPartition r.pool
   pub day : r.last_day ≤ last_date
   pub policy : IsPolicy p
-  pub valid : IsRequest request
+  pub valid : is_request request ≡ true
 
 -- nothing is against the request
 pub record IsAllowed (r : Register) (p : PlainPolicy) (day : ℕ) (who : List ℕ) (request : Request) : Type 0 where
@@ -195,7 +200,7 @@ until_is_right : (r : Register) (p : PlainPolicy) (day : ℕ) (who : List ℕ) (
 until_is_right r p day who (Return range handle) can is =
     later_is_right (entry_day r day) p.quarantine_days (entry_day_bound r day can.day)
 until_is_right r p day who (Transfer range from to) can is =
-    let held = first_in_pool r range can.valid (or_none (outside_pool r range) _ is.early).0 in
+    let held = first_in_pool r range (range_valid range can.valid) (or_none (outside_pool r range) _ is.early).0 in
     let d : ℕ = entry_day r day in
     let until : ℕ = days_later d p.hold_days in
     subst (λ u. (nat_le d u && nat_le u last_date) ≡ true)
@@ -271,20 +276,20 @@ proposed_is_next r p day who request can is =
       subst (λ c. same_cover e.cover c ≡ true) (sym (cover_of_start r request (chosen_start r request))) (option_eq-refl same_range same_range-refl e.cover) in
     let card_same : same_painted e.card (card_for r request e.day (until_of e.card)) ≡ true =
       subst (λ c. same_painted e.card c ≡ true) (sym (card_of_until r request e.day (until_for p request e.day))) (option_eq-refl same_card same_card-refl e.card) in
-    all_of (e.seq == r.entries + 1) (day_may_be r e.day) (is_none (first_of (early_rules r request))) (block_may_be r request (start_of e.cover))
+    all_of (is_request request) (e.seq == r.entries + 1) (day_may_be r e.day) (is_none (first_of (early_rules r request))) (block_may_be r request (start_of e.cover))
       (until_may_be request e.day (until_of e.card)) (is_none (late_refusal r e)) (same_cover e.cover (cover_for r request (start_of e.cover)))
       (same_painted e.card (card_for r request e.day (until_of e.card)))
-      (eq-eqb (r.entries + 1) (r.entries + 1) refl) (day_is_right r day can.day) (none_is_none (first_of (early_rules r request)) is.early)
+      can.valid (eq-eqb (r.entries + 1) (r.entries + 1) refl) (day_is_right r day can.day) (none_is_none (first_of (early_rules r request)) is.early)
       (block_is_right r p day who request can is) (until_is_right r p day who request can is) (none_is_none (late_refusal r e) is.late)
       cover_same card_same
   where
-    all_of : (a b c d e f g h : Bool) → a ≡ true → b ≡ true → c ≡ true → d ≡ true → e ≡ true → f ≡ true → g ≡ true → h ≡ true
-      → (a && b && c && d && e && f && g && h) ≡ true
-    all_of a b c d e f g h p q r s t u v w =
-      and_from (a && b && c && d && e && f && g) h
-        (and_from (a && b && c && d && e && f) g
-          (and_from (a && b && c && d && e) f
-            (and_from (a && b && c && d) e (and_from (a && b && c) d (and_from (a && b) c (and_from a b p q) r) s) t) u) v) w
+    all_of : (z a b c d e f g h : Bool) → z ≡ true → a ≡ true → b ≡ true → c ≡ true → d ≡ true → e ≡ true → f ≡ true → g ≡ true → h ≡ true
+      → (z && a && b && c && d && e && f && g && h) ≡ true
+    all_of z a b c d e f g h o p q r s t u v w =
+      and_from (z && a && b && c && d && e && f && g) h
+        (and_from (z && a && b && c && d && e && f) g
+          (and_from (z && a && b && c && d && e) f
+            (and_from (z && a && b && c && d) e (and_from (z && a && b && c) d (and_from (z && a && b) c (and_from (z && a) b (and_from z a o p) q) r) s) t) u) v) w
 
 if_accepted : (o : Option Refusal) (e : PlainEntry) (P : PlainEntry → Type 0) → (o ≡ None → P e) → IfAccepted (reply_of o e) P
 if_accepted None e P h = h refl

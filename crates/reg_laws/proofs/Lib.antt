@@ -1,3 +1,4 @@
 pub mod Sameness
 pub mod Playing
 pub mod Accepting
+pub mod Reshaped

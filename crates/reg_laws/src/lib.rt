@@ -3,3 +3,4 @@
 
 pub mod next;
 pub mod objects;
+pub mod pieces;
