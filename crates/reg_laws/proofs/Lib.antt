@@ -5,3 +5,4 @@ pub mod Reshaped
 pub mod NextFacts
 pub mod Painted
 pub mod Conserving
+pub mod FreeBlocks
