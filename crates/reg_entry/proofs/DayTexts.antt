@@ -1,12 +1,12 @@
 -- What eight digits are read as is what they are written from.
-use Rattle.std.proofs.Common.{◌≡◌, ℕ, ◌+◌, ◌-◌, ◌*◌, ◌/◌, ◌%◌, ◌<◌, ◌≤◌, ◌↔◌, Bool, true, false, cond, ◌&&◌, nat_le, inl, inr, List, [], ◌∷◌, ◌++◌, Option, None, Some, refl, sym, ◌∙◌, ap, subst, arith, pos}
+use Rattle.std.proofs.Common.{◌≡◌, ℕ, ◌+◌, ◌-◌, ◌*◌, ◌/◌, ◌%◌, ◌<◌, ◌≤◌, ◌↔◌, true, ◌&&◌, nat_le, List, [], ◌∷◌, ◌++◌, Option, None, Some, refl, sym, ◌∙◌, ap, subst, arith, pos}
 use Rattle.std.specs.Option.{IsSome, IfSome}
-use Rattle.std.proofs.lemmas.Bool.{cond_both, cond-true, and_parts, and_from, leb-true, le-leb, both_ways}
+use Rattle.std.proofs.lemmas.Bool.{cond_both, cond-true, and_parts, and_from, leb-true, le-leb}
 use Rattle.std.proofs.lemmas.Option.{none-some, same_Some}
 use Rattle.reg_entry.specs.Days.{is_digit_byte, digit_pair, two_digits, date_text, day_text, date_of_day, date_of_pairs, date_of_text, last_date, SpellsDay, IsDateOfDay}
 use Rattle.jiff_core.specs.Calendar.{day_count}
 use Rattle.jiff_core.proofs.CalendarLemmas.{days_in_month_bounds}
-use Rattle.reg_entry.proofs.Calendar.{IsDateAt, date_of_day_is}
+use Rattle.reg_entry.proofs.Calendar.{date_of_day_is}
 
 digit_is : (b : ℕ) → is_digit_byte b ≡ true → (48 ≤ b) × (b ≤ 57)
 digit_is b e = let p = and_parts (nat_le 48 b) (nat_le b 57) e in (leb-true 48 b p.0, leb-true b 57 p.1)

@@ -1,40 +1,35 @@
 -- The decision and the step of the register tried on worked examples: each computes.
 use Rattle.std.proofs.Common.{◌≡◌, ℕ, ◌+◌, ◌-◌, ◌*◌, ◌^◌, Bool, true, false, nat_le, List, [], ◌∷◌, ◌++◌, Option, None, Some, map, filter, refl}
 use Rattle.std.specs.Prelude.{Result, Ok, Err, codes}
-use Rattle.num_range.specs.declared.space.Space.{Space}
 use Rattle.num_range.specs.declared.space.Space.TheVariants.{Asn, Ipv4, Ipv6}
 use Rattle.num_range.specs.Number.{PlainNumber}
 use Rattle.num_range.specs.Range.{PlainRange}
 use Rattle.num_range.specs.Cover.{reverse_cuts, blocks_inside}
-use Rattle.reg_entry.specs.declared.card.Card.{Card}
 use Rattle.reg_entry.specs.declared.card.Status.TheVariants.{Available, Quarantine, Allocated, Assigned}
 use Rattle.reg_entry.specs.declared.kind.Kind.TheVariants.{Lir, EndUser}
 use Rattle.reg_entry.specs.declared.kind.Kind.{Kind}
 use Rattle.reg_entry.specs.declared.holder.Holder.{Holder}
-use Rattle.reg_entry.specs.declared.piece.Piece.{Piece}
 use Rattle.reg_entry.specs.declared.rooms.Rooms.{Rooms}
 use Rattle.reg_entry.specs.declared.policy.Row.{Row}
 use Rattle.reg_entry.specs.declared.entry.Reply.{Reply}
 use Rattle.reg_entry.specs.declared.entry.Reply.TheVariants.{Accepted, Refused}
 use Rattle.reg_entry.specs.declared.refusal.Refusal.{Refusal}
-use Rattle.reg_entry.specs.declared.refusal.Refusal.TheVariants.{UnknownHostmaster, OutsidePool, NotOnePiece, WrongStatus, UnknownHolder, NotHolder, HandleTaken, Overlap, NoSub, NoReverse, LengthOutOfPolicy, HolderKind, OverCap, UnderUsed, HoldTime, NotDue, HasSubs, Straddled, NoBlock, NoReverseSpace, RegisterFull, HoldersFull, JournalFull, SubsFull, ReverseFull}
-use Rattle.reg_entry.specs.declared.request.Delegation.{Delegation}
+use Rattle.reg_entry.specs.declared.refusal.Refusal.TheVariants.{OutsidePool, NotOnePiece, WrongStatus, UnknownHolder, NotHolder, HandleTaken, Overlap, NoSub, NoReverse, LengthOutOfPolicy, HolderKind, OverCap, UnderUsed, HoldTime, NotDue, HasSubs, Straddled, NoBlock, NoReverseSpace, RegisterFull, HoldersFull, JournalFull, SubsFull, ReverseFull}
 use Rattle.reg_entry.specs.declared.request.Delegation.TheVariants.{Allocate, Assign}
 use Rattle.reg_entry.specs.declared.request.Request.{Request}
 use Rattle.reg_entry.specs.declared.request.Request.TheVariants.{Receive, AddHolder, Delegate, Reserve, Unreserve, SubAssign, SubReturn, Return, Release, Split, Join, Transfer, SetReverse, ClearReverse}
 use Rattle.reg_entry.specs.declared.object.Object.{Object}
-use Rattle.reg_entry.specs.declared.object.Object.TheVariants.{Org, Block, Cut}
+use Rattle.reg_entry.specs.declared.object.Object.TheVariants.{Block, Cut}
 use Rattle.reg_entry.specs.declared.object.Act.{Act}
 use Rattle.reg_entry.specs.declared.object.Act.TheVariants.{Add, Del}
 use Rattle.reg_entry.specs.Entry.{PlainEntry}
 use Rattle.reg_entry.specs.Op.{PlainOp}
 use Rattle.reg_entry.specs.Policy.{PlainPolicy, PlainRows}
 use Rattle.reg_entry.specs.Entries.{last_card}
-use Rattle.reg_entry.specs.Register.{Register, empty_register, after_entry, after_entries, register_after, card_of}
+use Rattle.reg_entry.specs.Register.{Register, empty_register, after_entry, register_after, card_of}
 use Rattle.reg_entry.specs.Decision.{decision}
-use Rattle.reg_entry.specs.Next.{may_come_next}
-use Rattle.reg_entry.specs.Objects.{objects_of, same_object}
-use Rattle.reg_entry.specs.Operations.{operations_of, changes_of, objects_after}
+use Rattle.reg_entry.specs.Objects.{objects_of}
+use Rattle.reg_entry.specs.Operations.{operations_of, objects_after}
 
 -- ---- the policies and requests of the examples
 

@@ -1,9 +1,7 @@
 -- What an accepted request paints: its cover and its card.
-use Rattle.std.specs.Prelude.{◌≡◌, ℕ, ◌+◌, ◌-◌, ◌%◌, ◌≤◌, Bool, ◌&&◌, ◌==◌, nat_le, List, Option, None, Some}
+use Rattle.std.specs.Prelude.{ℕ, ◌+◌, ◌-◌, Option, None, Some}
 use Rattle.std.specs.Option.{option_map, option_and_then}
-use Rattle.std.specs.List.{list_any}
 use Rattle.num_range.specs.declared.space.Space.{Space}
-use Rattle.num_range.specs.Space.{top_of}
 use Rattle.num_range.specs.Number.{PlainNumber}
 use Rattle.num_range.specs.Range.{PlainRange}
 use Rattle.reg_entry.specs.declared.card.Card.{Card}
@@ -12,9 +10,9 @@ use Rattle.reg_entry.specs.declared.card.Status.TheVariants.{Reserved, Quarantin
 use Rattle.reg_entry.specs.declared.piece.Piece.{Piece}
 use Rattle.reg_entry.specs.declared.request.Request.{Request}
 use Rattle.reg_entry.specs.declared.request.Request.TheVariants.{Receive, AddHolder, EditHolder, Delegate, Reserve, Unreserve, SubAssign, SubReturn, Return, Release, Split, Join, Transfer, SetReverse, ClearReverse}
-use Rattle.reg_entry.specs.Card.{is_available, plain_card}
+use Rattle.reg_entry.specs.Card.{plain_card}
 use Rattle.reg_entry.specs.Request.{status_of, amount_size}
-use Rattle.reg_entry.specs.Blocks.{alignment, least_block}
+use Rattle.reg_entry.specs.Blocks.{least_block}
 use Rattle.reg_entry.specs.Holders.{holder_number}
 use Rattle.reg_entry.specs.Register.{Register, register_pieces, piece_of}
 

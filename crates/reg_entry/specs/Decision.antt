@@ -1,7 +1,7 @@
 -- The decision: what becomes of a request. Each reason for a refusal is a condition with a name of its own; the tables
 -- below say which requests it is asked of. The first that holds, in the order of the refusals, is the answer.
-use Rattle.std.specs.Prelude.{ℕ, ◌+◌, ◌-◌, ◌*◌, ◌/◌, ◌^◌, max, Bool, true, false, not, ◌&&◌, ◌||◌, ◌==◌, nat_eq, nat_lt, nat_le, if◌then◌else◌, List, [], ◌∷◌, Option, None, Some, filter, find, length}
-use Rattle.std.specs.Option.{is_some, option_or, option_map, option_map_or, option_and_then, option_eq}
+use Rattle.std.specs.Prelude.{ℕ, ◌+◌, ◌*◌, ◌/◌, ◌^◌, max, Bool, true, false, not, ◌&&◌, ◌||◌, ◌==◌, nat_eq, nat_lt, nat_le, if◌then◌else◌, List, [], ◌∷◌, Option, None, Some, filter, find, length}
+use Rattle.std.specs.Option.{is_some, option_or, option_map, option_and_then, option_eq}
 use Rattle.num_range.specs.declared.space.Space.{Space}
 use Rattle.num_range.specs.declared.space.Space.TheVariants.{Asn, Ipv4, Ipv6}
 use Rattle.num_range.specs.Number.{PlainNumber}
@@ -10,7 +10,6 @@ use Rattle.reg_entry.specs.declared.card.Card.{Card}
 use Rattle.reg_entry.specs.declared.card.Status.{Status}
 use Rattle.reg_entry.specs.declared.card.Status.TheVariants.{Reserved, Quarantine, Allocated}
 use Rattle.reg_entry.specs.declared.piece.Piece.{Piece}
-use Rattle.reg_entry.specs.declared.holder.Holder.{Holder}
 use Rattle.reg_entry.specs.declared.policy.Row.{Row}
 use Rattle.reg_entry.specs.declared.entry.Reply.{Reply}
 use Rattle.reg_entry.specs.declared.entry.Reply.TheVariants.{Accepted, Refused}

@@ -1,5 +1,5 @@
 -- Hosts: the full names of name servers (RFC 1035 2.3.1, with a digit first as RFC 1123 2.1 allows).
-use Rattle.std.specs.Prelude.{ℕ, ◌≤◌, Bool, ◌&&◌, ◌||◌, ◌==◌, nat_le, List, length}
+use Rattle.std.specs.Prelude.{ℕ, Bool, ◌&&◌, ◌||◌, ◌==◌, nat_le, List, length}
 use Rattle.std.specs.List.{list_all, slice_split}
 use Rattle.reg_entry.specs.Name.{is_name_byte}
 use Rattle.reg_entry.specs.Text.{is_bare_of}

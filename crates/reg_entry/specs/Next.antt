@@ -1,7 +1,7 @@
 -- Which entry may come next. The policy may change between two runs, so a journal is judged by the rules of the register
 -- alone; two things are free: which free block a Delegate takes, and until when a returned or transferred piece is kept.
-use Rattle.std.specs.Prelude.{◌≡◌, ℕ, ◌+◌, ◌-◌, ◌%◌, Bool, true, false, not, ◌&&◌, ◌==◌, nat_le, List, [], ◌∷◌, Option, None, Some}
-use Rattle.std.specs.Option.{is_some, is_none, option_eq, option_map, option_map_or}
+use Rattle.std.specs.Prelude.{◌≡◌, ℕ, ◌+◌, ◌-◌, ◌%◌, Bool, true, false, ◌&&◌, ◌==◌, nat_le, List, [], ◌∷◌, Option}
+use Rattle.std.specs.Option.{is_none, option_eq, option_map, option_map_or}
 use Rattle.std.specs.List.{list_any}
 use Rattle.num_range.specs.declared.space.Space.{Space}
 use Rattle.num_range.specs.Space.{top_of}

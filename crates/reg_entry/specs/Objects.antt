@@ -1,7 +1,7 @@
 -- What the register publishes: an object for each piece, sub, holder and reverse cut (the classes are RFC 2622's, but for
 -- the sub-assignment), and the operations that lead from one state of the objects to the next.
-use Rattle.std.specs.Prelude.{◌≡◌, ℕ, ◌+◌, Bool, true, false, not, ◌&&◌, ◌||◌, ◌==◌, nat_eq, nat_lt, if◌then◌else◌, List, [], ◌∷◌, ◌++◌, Option, None, Some, filter, map, find, fold, bytes_eq}
-use Rattle.std.specs.Option.{is_some, is_none, option_eq, option_map_or}
+use Rattle.std.specs.Prelude.{◌≡◌, ℕ, Bool, true, false, not, ◌&&◌, ◌||◌, ◌==◌, nat_lt, if◌then◌else◌, List, [], ◌∷◌, ◌++◌, Option, None, filter, map, find, fold, bytes_eq}
+use Rattle.std.specs.Option.{is_none, option_eq, option_map_or}
 use Rattle.std.specs.List.{flat_map}
 use Rattle.num_range.specs.Range.{PlainRange}
 use Rattle.num_range.specs.Cover.{reverse_cuts}

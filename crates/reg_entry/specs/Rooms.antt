@@ -1,5 +1,5 @@
 -- Rooms: how much a register may keep.
-use Rattle.std.specs.Prelude.{ℕ, ◌^◌, ◌≤◌}
+use Rattle.std.specs.Prelude.{◌^◌, ◌≤◌}
 use Rattle.reg_entry.specs.declared.rooms.Rooms.{Rooms}
 
 -- each is at least 1, and no count and no serial leaves its type

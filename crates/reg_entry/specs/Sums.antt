@@ -1,6 +1,6 @@
 -- How many numbers of a space have a status, and how many a holder holds.
-use Rattle.std.specs.Prelude.{ℕ, ◌+◌, Bool, true, false, ◌&&◌, ◌==◌, nat_eq, nat_le, nat_lt, if◌then◌else◌, List, [], ◌∷◌, ◌++◌, Option, None, Some, filter, map}
-use Rattle.std.specs.Option.{option_eq, option_map}
+use Rattle.std.specs.Prelude.{ℕ, ◌+◌, Bool, ◌&&◌, nat_eq, nat_le, if◌then◌else◌, List, [], ◌∷◌, ◌++◌, Option, None, Some, filter, map}
+use Rattle.std.specs.Option.{option_eq}
 use Rattle.std.specs.List.{list_any, flat_map}
 use Rattle.num_range.specs.declared.space.Space.{Space}
 use Rattle.num_range.specs.Range.{PlainRange, size_of}
@@ -13,7 +13,7 @@ use Rattle.reg_entry.specs.declared.sub_card.SubCard.{SubCard}
 use Rattle.reg_entry.specs.Card.{same_status, is_delegated}
 use Rattle.reg_entry.specs.Pieces.{size_sum}
 use Rattle.reg_entry.specs.Ranges.{lies_inside}
-use Rattle.reg_entry.specs.Register.{Register, register_pieces, piece_of}
+use Rattle.reg_entry.specs.Register.{Register, register_pieces}
 
 -- how many numbers the ranges have
 abbrev pub ranges_size : List (PlainRange × SubCard) → ℕ

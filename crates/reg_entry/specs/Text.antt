@@ -1,5 +1,5 @@
 -- Texts that are stored as they stand: a holder's name in full, and its email.
-use Rattle.std.specs.Prelude.{ℕ, ◌-◌, ◌≤◌, Bool, ◌&&◌, ◌==◌, not, nat_le, List, length, slice_index}
+use Rattle.std.specs.Prelude.{ℕ, ◌-◌, Bool, ◌&&◌, ◌==◌, not, nat_le, List, length, slice_index}
 use Rattle.std.specs.List.{list_all}
 
 -- printable ASCII, but for the three bytes that quote, comment or escape elsewhere: `"`, `#` and `\`

@@ -1,20 +1,20 @@
 -- What every legal list of entries keeps: a register that is whole.
-use Rattle.std.specs.Prelude.{◌≡◌, ℕ, ◌<◌, ◌≤◌, Bool, true, false, List, [], ◌∷◌, Option, None, Some, length, is_some, slice_get}
-use Rattle.std.specs.Option.{MatchOption, IsSomeAnd}
+use Rattle.std.specs.Prelude.{◌≡◌, ℕ, ◌<◌, ◌≤◌, true, false, List, [], ◌∷◌, Option, None, length}
+use Rattle.std.specs.Option.{IsSomeAnd}
 use Rattle.num_range.specs.declared.space.Space.{Space}
 use Rattle.num_range.specs.Range.{PlainRange}
 use Rattle.num_range.specs.Block.{IsBlockStart, block_of}
 use Rattle.num_range.specs.Cover.{is_cut_length}
 use Rattle.reg_entry.specs.declared.card.Card.{Card}
-use Rattle.reg_entry.specs.declared.card.Status.TheVariants.{Available, Reserved, Quarantine, Allocated, Assigned}
+use Rattle.reg_entry.specs.declared.card.Status.TheVariants.{Allocated}
 use Rattle.reg_entry.specs.declared.piece.Piece.{Piece}
 use Rattle.reg_entry.specs.declared.holder.Holder.{Holder}
 use Rattle.reg_entry.specs.declared.sub_card.SubCard.{SubCard}
 use Rattle.reg_entry.specs.declared.object.Object.{Object}
 use Rattle.reg_entry.specs.declared.object.Object.TheVariants.{Org, Block, Sub, Cut}
-use Rattle.reg_entry.specs.Card.{is_available, is_delegated}
+use Rattle.reg_entry.specs.Card.{is_delegated}
 use Rattle.reg_entry.specs.Op.{PlainOp}
-use Rattle.reg_entry.specs.Partition.{IsPartition, pieces_in, piece_count}
+use Rattle.reg_entry.specs.Partition.{IsPartition, piece_count}
 use Rattle.reg_entry.specs.Ranges.{lies_inside, AreApart}
 use Rattle.reg_entry.specs.Holders.{HaveDistinctHandles}
 use Rattle.reg_entry.specs.Days.{last_date}

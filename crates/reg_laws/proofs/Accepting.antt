@@ -1,16 +1,14 @@
 -- Whatever the decision accepts may come next.
-use Rattle.std.proofs.Common.{◌≡◌, ℕ, ◌+◌, ◌-◌, ◌*◌, ◌%◌, ◌^◌, ◌<◌, ◌≤◌, min, max, Bool, true, false, cond, not, ◌&&◌, ◌||◌, ◌==◌, nat_le, nat_lt, inl, inr, List, [], ◌∷◌, Option, None, Some, refl, sym, ◌∙◌, ap, subst, arith}
-use Rattle.std.specs.Option.{is_some, is_none, option_or, option_map, option_map_or, option_eq}
-use Rattle.std.specs.List.{list_any, find}
-use Rattle.std.proofs.lemmas.Bool.{cond_both, cond-true, cond-false, cases_Bool, both_ways, and_from, and_parts, or_left, or_right, or_parts, le-leb, leb-true, eq-eqb, ltb-false, not-false}
+use Rattle.std.proofs.Common.{◌≡◌, ℕ, ◌+◌, ◌-◌, ◌%◌, ◌<◌, ◌≤◌, Bool, true, false, not, ◌&&◌, ◌||◌, ◌==◌, nat_le, nat_lt, inl, inr, List, [], ◌∷◌, Option, None, Some, refl, sym, ◌∙◌, ap, subst, arith}
+use Rattle.std.specs.Option.{is_some, is_none, option_or, option_map, option_map_or}
+use Rattle.std.specs.List.{list_any}
+use Rattle.std.proofs.lemmas.Bool.{cond-true, cond-false, cases_Bool, both_ways, and_from, and_parts, or_left, or_right, or_parts, le-leb, leb-true, eq-eqb, ltb-false, not-false}
 use Rattle.std.proofs.lemmas.Nat.{pow_pos}
 use Rattle.std.proofs.lemmas.Option.{none-some, same_Some}
 use Rattle.num_range.specs.declared.space.Space.{Space}
 use Rattle.num_range.specs.declared.space.Space.TheVariants.{Asn, Ipv4, Ipv6}
-use Rattle.num_range.specs.Space.{top_of, width_of}
+use Rattle.num_range.specs.Space.{top_of}
 use Rattle.num_range.specs.Range.{PlainRange, IsRange}
-use Rattle.reg_entry.specs.declared.card.Card.{Card}
-use Rattle.reg_entry.specs.declared.card.Status.{Status}
 use Rattle.reg_entry.specs.declared.piece.Piece.{Piece}
 use Rattle.reg_entry.specs.declared.policy.Row.{Row}
 use Rattle.reg_entry.specs.declared.refusal.Refusal.{Refusal}
@@ -21,18 +19,18 @@ use Rattle.reg_entry.specs.Entry.{PlainEntry}
 use Rattle.reg_entry.specs.Card.{is_available}
 use Rattle.reg_entry.specs.Request.{status_of, amount_size, has_size, is_range, is_request}
 use Rattle.reg_entry.specs.Policy.{PlainPolicy, policy_row, IsPolicy}
-use Rattle.reg_entry.specs.Pieces.{holds, piece_at, RisesFrom, AllPiecesOf, ArePieces}
-use Rattle.reg_entry.specs.Partition.{pieces_in, IsPartition}
+use Rattle.reg_entry.specs.Pieces.{holds, piece_at, AllPiecesOf}
+use Rattle.reg_entry.specs.Partition.{IsPartition}
 use Rattle.reg_entry.specs.Blocks.{alignment, rounded_up, least_block}
-use Rattle.reg_entry.specs.Days.{last_date, clamped_day, days_later}
+use Rattle.reg_entry.specs.Days.{last_date, days_later}
 use Rattle.reg_entry.specs.Register.{Register, register_pieces, piece_of}
 use Rattle.reg_entry.specs.Ranges.{same_range}
 use Rattle.reg_entry.specs.Card.{same_card}
 use Rattle.reg_entry.specs.Holders.{holder_number}
 use Rattle.reg_entry.specs.Covers.{first_number, chosen_start, cover_for, card_for, range_from, holder_card}
-use Rattle.reg_entry.specs.Decision.{first_of, refuse_if, on_piece, unknown_hostmaster, outside_at, least_missing, outside_pool, amount_out_of_policy, no_block, early_rules, policy_rules, late_rules, late_refusal, until_for, entry_day, proposed_entry, refusal_of, reply_of, decision, IfAccepted}
+use Rattle.reg_entry.specs.Decision.{first_of, refuse_if, unknown_hostmaster, least_missing, outside_pool, amount_out_of_policy, no_block, early_rules, policy_rules, late_refusal, until_for, entry_day, proposed_entry, refusal_of, reply_of, decision, IfAccepted}
 use Rattle.reg_entry.specs.Next.{has_free, is_free_block, start_of, block_may_be, until_of, until_may_be, day_may_be, same_cover, same_painted, may_come_next, IsNextEntry}
-use Rattle.reg_entry.proofs.Holding.{holds_true, holds_from}
+use Rattle.reg_entry.proofs.Holding.{holds_from}
 use Rattle.reg_entry.proofs.LeastBlock.{rounded_up_no_less, rounded_up_is_multiple, alignment_pos}
 use Rattle.reg_laws.proofs.Sameness.{same_range-refl, same_card-refl, option_eq-refl}
 
@@ -70,7 +68,7 @@ pub first_in_pool : (r : Register) (range : PlainRange) → IsRange range → ou
     → is_some (piece_of r.pool (first_number range)) ≡ true
 first_in_pool r range valid e =
     held_first (register_pieces r range.space) range.first range.last valid.0
-      (map_none (λ n. OutsidePool (record { space = range.space; value = n })) (least_missing (register_pieces r range.space) range.first range.last) e)
+    (map_none (λ n. OutsidePool (record { space = range.space; value = n })) (least_missing (register_pieces r range.space) range.first range.last) e)
 
 -- ---- the block
 
@@ -93,20 +91,20 @@ least_is_free space (p ∷ ps) size x pos each e =
           let first : p.range.first ≤ start = rounded_up_no_less p.range.first (alignment space size) (alignment_pos space size pos) in
           let top : p.range.last ≤ top_of space = each.0.within in
           subst (λ y. is_free_block (p ∷ ps) space size y ≡ true) same
-            (and_from ((start % alignment space size == 0) && nat_le (start + (size - 1)) (top_of space)) (list_any (has_free start (start + (size - 1))) (p ∷ ps))
-              (and_from (start % alignment space size == 0) (nat_le (start + (size - 1)) (top_of space))
-                (eq-eqb (start % alignment space size) 0 (rounded_up_is_multiple p.range.first (alignment space size)))
-                (le-leb (start + (size - 1)) (top_of space) (omega arith)))
-              (or_left (has_free start (start + (size - 1)) p) (list_any (has_free start (start + (size - 1))) ps)
-                (and_from (is_available p.card.status && holds p start) (holds p (start + (size - 1)))
-                  (and_from (is_available p.card.status) (holds p start) both.0 (holds_from p start first (omega arith)))
-                  (holds_from p (start + (size - 1)) (omega arith) last))))
+          (and_from ((start % alignment space size == 0) && nat_le (start + (size - 1)) (top_of space)) (list_any (has_free start (start + (size - 1))) (p ∷ ps))
+          (and_from (start % alignment space size == 0) (nat_le (start + (size - 1)) (top_of space))
+          (eq-eqb (start % alignment space size) 0 (rounded_up_is_multiple p.range.first (alignment space size)))
+          (le-leb (start + (size - 1)) (top_of space) (omega arith)))
+          (or_left (has_free start (start + (size - 1)) p) (list_any (has_free start (start + (size - 1))) ps)
+          (and_from (is_available p.card.status && holds p start) (holds p (start + (size - 1)))
+          (and_from (is_available p.card.status) (holds p start) both.0 (holds_from p start first (omega arith)))
+          (holds_from p (start + (size - 1)) (omega arith) last))))
       | inr f ↦
           let rest : is_free_block ps space size x ≡ true =
-            least_is_free space ps size x pos each.1 (sym (cond-false fits (Some start) (least_block ps space size) f) ∙ e) in
+          least_is_free space ps size x pos each.1 (sym (cond-false fits (Some start) (least_block ps space size) f) ∙ e) in
           let parts = and_parts ((x % alignment space size == 0) && nat_le (x + (size - 1)) (top_of space)) (list_any (has_free x (x + (size - 1))) ps) rest in
           and_from ((x % alignment space size == 0) && nat_le (x + (size - 1)) (top_of space)) (list_any (has_free x (x + (size - 1))) (p ∷ ps)) parts.0
-            (or_right (has_free x (x + (size - 1)) p) (list_any (has_free x (x + (size - 1))) ps) parts.1)
+          (or_right (has_free x (x + (size - 1)) p) (list_any (has_free x (x + (size - 1))) ps) parts.1)
     ]
 
 start_of_map : (space : Space) (size : ℕ) (start : Option ℕ) → start_of (option_map (λ x. range_from space x size) start) ≡ start
@@ -117,11 +115,11 @@ block_from : (space : Space) (amount : ℕ) (ps : List Piece) (start : Option �
     → least_block ps space (amount_size space amount) ≡ start
     → is_some (option_map (λ x. range_from space x (amount_size space amount)) start) ≡ true
     → (has_size space amount && option_map_or (is_free_block ps space (amount_size space amount))
-        (start_of (option_map (λ x. range_from space x (amount_size space amount)) start)) false) ≡ true
+    (start_of (option_map (λ x. range_from space x (amount_size space amount)) start)) false) ≡ true
 block_from space amount ps None each sized e some = absurd (both_ways false refl some)
 block_from space amount ps (Some x) each sized e some =
     and_from (has_size space amount) (is_free_block ps space (amount_size space amount) x) sized
-      (least_is_free space ps (amount_size space amount) x (size_pos space amount sized) each e)
+    (least_is_free space ps (amount_size space amount) x (size_pos space amount sized) each e)
 
 -- ---- the parts of what may come next, of the entry that is proposed
 
@@ -151,14 +149,14 @@ block_is_right : (r : Register) (p : PlainPolicy) (day : ℕ) (who : List ℕ) (
 block_is_right r p day who (Delegate space amount status handle) can is =
     let row : Row = policy_row p space (status_of status) in
     let out = refuse_if_none (nat_lt amount row.least || nat_lt row.most amount) (LengthOutOfPolicy row.least row.most)
-      (or_none (amount_out_of_policy row amount) _ is.policy).0 in
+    (or_none (amount_out_of_policy row amount) _ is.policy).0 in
     let bounds = or_parts (nat_lt amount row.least) (nat_lt row.most amount) out in
     let sized : has_size space amount ≡ true =
-      can.policy.rows space (status_of status) amount (ltb-false amount row.least bounds.0) (ltb-false row.most amount bounds.1) in
+    can.policy.rows space (status_of status) amount (ltb-false amount row.least bounds.0) (ltb-false row.most amount bounds.1) in
     let cover : Option PlainRange = cover_for r (Delegate space amount status handle) (chosen_start r (Delegate space amount status handle)) in
     let some : is_some cover ≡ true = not-false (is_some cover) (refuse_if_none (not (is_some cover)) NoBlock (or_none (no_block cover) _ is.late).0) in
     block_from space amount (register_pieces r space) (least_block (register_pieces r space) space (amount_size space amount))
-      (can.pool.each space).each sized refl some
+    (can.pool.each space).each sized refl some
 block_is_right r p day who (Receive range) can is = refl
 block_is_right r p day who (AddHolder holder) can is = refl
 block_is_right r p day who (EditHolder holder) can is = refl
@@ -177,14 +175,14 @@ block_is_right r p day who (ClearReverse range) can is = refl
 day_is_right : (r : Register) (day : ℕ) → r.last_day ≤ last_date → day_may_be r (entry_day r day) ≡ true
 day_is_right r day h =
     and_from (nat_le 1 (entry_day r day) && nat_le r.last_day (entry_day r day)) (nat_le (entry_day r day) last_date)
-      (and_from (nat_le 1 (entry_day r day)) (nat_le r.last_day (entry_day r day))
-        (le-leb 1 (entry_day r day) (omega arith)) (le-leb r.last_day (entry_day r day) (omega arith)))
-      (le-leb (entry_day r day) last_date (omega arith))
+    (and_from (nat_le 1 (entry_day r day)) (nat_le r.last_day (entry_day r day))
+    (le-leb 1 (entry_day r day) (omega arith)) (le-leb r.last_day (entry_day r day) (omega arith)))
+    (le-leb (entry_day r day) last_date (omega arith))
 
 later_is_right : (day days : ℕ) → day ≤ last_date → (nat_le day (days_later day days) && nat_le (days_later day days) last_date) ≡ true
 later_is_right day days h =
     and_from (nat_le day (days_later day days)) (nat_le (days_later day days) last_date)
-      (le-leb day (days_later day days) (omega arith)) (le-leb (days_later day days) last_date (omega arith))
+    (le-leb day (days_later day days) (omega arith)) (le-leb (days_later day days) last_date (omega arith))
 
 entry_day_bound : (r : Register) (day : ℕ) → r.last_day ≤ last_date → entry_day r day ≤ last_date
 entry_day_bound r day h = omega arith
@@ -204,8 +202,8 @@ until_is_right r p day who (Transfer range from to) can is =
     let d : ℕ = entry_day r day in
     let until : ℕ = days_later d p.hold_days in
     subst (λ u. (nat_le d u && nat_le u last_date) ≡ true)
-      (sym (until_of_transfer (piece_of r.pool (first_number range)) (holder_number r.holders to) d until held))
-      (later_is_right d p.hold_days (entry_day_bound r day can.day))
+    (sym (until_of_transfer (piece_of r.pool (first_number range)) (holder_number r.holders to) d until held))
+    (later_is_right d p.hold_days (entry_day_bound r day can.day))
 until_is_right r p day who (Receive range) can is = refl
 until_is_right r p day who (AddHolder holder) can is = refl
 until_is_right r p day who (EditHolder holder) can is = refl
@@ -241,7 +239,7 @@ cover_of_start r (ClearReverse range) start = refl
 
 moved_card : (o : Option Piece) (holder : Option ℕ) (day until : ℕ)
     → option_map (λ p. holder_card p.card.status holder day (until_of (option_map (λ q. holder_card q.card.status holder day until) o))) o
-      ≡ option_map (λ p. holder_card p.card.status holder day until) o
+    ≡ option_map (λ p. holder_card p.card.status holder day until) o
 moved_card None holder day until = refl
 moved_card (Some p) holder day until = refl
 
@@ -273,23 +271,23 @@ proposed_is_next : (r : Register) (p : PlainPolicy) (day : ℕ) (who : List ℕ)
 proposed_is_next r p day who request can is =
     let e : PlainEntry = proposed_entry r p day who request in
     let cover_same : same_cover e.cover (cover_for r request (start_of e.cover)) ≡ true =
-      subst (λ c. same_cover e.cover c ≡ true) (sym (cover_of_start r request (chosen_start r request))) (option_eq-refl same_range same_range-refl e.cover) in
+    subst (λ c. same_cover e.cover c ≡ true) (sym (cover_of_start r request (chosen_start r request))) (option_eq-refl same_range same_range-refl e.cover) in
     let card_same : same_painted e.card (card_for r request e.day (until_of e.card)) ≡ true =
-      subst (λ c. same_painted e.card c ≡ true) (sym (card_of_until r request e.day (until_for p request e.day))) (option_eq-refl same_card same_card-refl e.card) in
+    subst (λ c. same_painted e.card c ≡ true) (sym (card_of_until r request e.day (until_for p request e.day))) (option_eq-refl same_card same_card-refl e.card) in
     all_of (is_request request) (e.seq == r.entries + 1) (day_may_be r e.day) (is_none (first_of (early_rules r request))) (block_may_be r request (start_of e.cover))
-      (until_may_be request e.day (until_of e.card)) (is_none (late_refusal r e)) (same_cover e.cover (cover_for r request (start_of e.cover)))
-      (same_painted e.card (card_for r request e.day (until_of e.card)))
-      can.valid (eq-eqb (r.entries + 1) (r.entries + 1) refl) (day_is_right r day can.day) (none_is_none (first_of (early_rules r request)) is.early)
-      (block_is_right r p day who request can is) (until_is_right r p day who request can is) (none_is_none (late_refusal r e) is.late)
-      cover_same card_same
+    (until_may_be request e.day (until_of e.card)) (is_none (late_refusal r e)) (same_cover e.cover (cover_for r request (start_of e.cover)))
+    (same_painted e.card (card_for r request e.day (until_of e.card)))
+    can.valid (eq-eqb (r.entries + 1) (r.entries + 1) refl) (day_is_right r day can.day) (none_is_none (first_of (early_rules r request)) is.early)
+    (block_is_right r p day who request can is) (until_is_right r p day who request can is) (none_is_none (late_refusal r e) is.late)
+    cover_same card_same
   where
     all_of : (z a b c d e f g h : Bool) → z ≡ true → a ≡ true → b ≡ true → c ≡ true → d ≡ true → e ≡ true → f ≡ true → g ≡ true → h ≡ true
-      → (z && a && b && c && d && e && f && g && h) ≡ true
+        → (z && a && b && c && d && e && f && g && h) ≡ true
     all_of z a b c d e f g h o p q r s t u v w =
-      and_from (z && a && b && c && d && e && f && g) h
+        and_from (z && a && b && c && d && e && f && g) h
         (and_from (z && a && b && c && d && e && f) g
-          (and_from (z && a && b && c && d && e) f
-            (and_from (z && a && b && c && d) e (and_from (z && a && b && c) d (and_from (z && a && b) c (and_from (z && a) b (and_from z a o p) q) r) s) t) u) v) w
+        (and_from (z && a && b && c && d && e) f
+        (and_from (z && a && b && c && d) e (and_from (z && a && b && c) d (and_from (z && a && b) c (and_from (z && a) b (and_from z a o p) q) r) s) t) u) v) w
 
 if_accepted : (o : Option Refusal) (e : PlainEntry) (P : PlainEntry → Type 0) → (o ≡ None → P e) → IfAccepted (reply_of o e) P
 if_accepted None e P h = h refl
@@ -299,4 +297,4 @@ pub accepted_is_next : (r : Register) (p : PlainPolicy) (day : ℕ) (who : List 
     → IfAccepted (decision r p day who request) (IsNextEntry r)
 accepted_is_next r p day who request can =
     if_accepted (refusal_of r p day who request) (proposed_entry r p day who request) (IsNextEntry r)
-      (λ none. proposed_is_next r p day who request can (allowed r p day who request none))
+    (λ none. proposed_is_next r p day who request can (allowed r p day who request none))

@@ -1,20 +1,20 @@
 -- Each entry that may come next keeps the pool, its cards and its numbers.
-use Rattle.std.proofs.Common.{◌≡◌, ℕ, ◌+◌, ◌-◌, ◌%◌, ◌^◌, ◌<◌, ◌≤◌, max, Bool, true, false, cond, not, ◌&&◌, ◌==◌, nat_lt, nat_le, inl, inr, List, [], ◌∷◌, Option, None, Some, refl, sym, ◌∙◌, ap, subst, arith}
-use Rattle.std.specs.Option.{is_some, option_or, option_map, option_map_or, option_and_then}
+use Rattle.std.proofs.Common.{◌≡◌, ℕ, ◌+◌, ◌-◌, ◌%◌, ◌^◌, ◌<◌, ◌≤◌, max, true, false, cond, ◌&&◌, ◌==◌, nat_lt, nat_le, inl, inr, List, [], ◌∷◌, Option, None, Some, refl, sym, ◌∙◌, ap, subst, arith}
+use Rattle.std.specs.Option.{option_or, option_map, option_map_or}
 use Rattle.std.specs.List.{list_any}
-use Rattle.std.proofs.lemmas.Bool.{cond_both, cond-true, cond-false, cases_Bool, both_ways, and_parts, eqb-true, eqb-false, ltb-false, ltb-true, not-true}
-use Rattle.std.proofs.lemmas.Option.{none-some, same_Some}
+use Rattle.std.proofs.lemmas.Bool.{cond-true, cond-false, cases_Bool, both_ways, and_parts, eqb-true, eqb-false, ltb-false, ltb-true}
+use Rattle.std.proofs.lemmas.Option.{none-some}
 use Rattle.num_range.specs.declared.space.Space.{Space}
 use Rattle.num_range.specs.declared.space.Space.TheVariants.{Asn, Ipv4, Ipv6}
 use Rattle.num_range.specs.Space.{top_of}
 use Rattle.num_range.specs.Number.{PlainNumber}
-use Rattle.num_range.specs.Range.{PlainRange, IsRange}
+use Rattle.num_range.specs.Range.{PlainRange}
 use Rattle.reg_entry.specs.declared.card.Card.{Card}
 use Rattle.reg_entry.specs.declared.card.Status.{Status}
 use Rattle.reg_entry.specs.declared.card.Status.TheVariants.{Available, Reserved, Quarantine, Allocated, Assigned}
 use Rattle.reg_entry.specs.declared.piece.Piece.{Piece}
 use Rattle.reg_entry.specs.declared.refusal.Refusal.{Refusal}
-use Rattle.reg_entry.specs.declared.refusal.Refusal.TheVariants.{OutsidePool, Overlap, NotOnePiece, CardsDiffer}
+use Rattle.reg_entry.specs.declared.refusal.Refusal.TheVariants.{OutsidePool, NotOnePiece, CardsDiffer}
 use Rattle.reg_entry.specs.declared.request.Delegation.{Delegation}
 use Rattle.reg_entry.specs.declared.request.Delegation.TheVariants.{Allocate, Assign}
 use Rattle.reg_entry.specs.declared.request.Request.{Request}
@@ -23,22 +23,22 @@ use Rattle.reg_entry.specs.Entry.{PlainEntry}
 use Rattle.reg_entry.specs.Card.{is_available, is_delegated, plain_card, same_card}
 use Rattle.reg_entry.specs.Request.{status_of, amount_size, has_size, is_range, is_request}
 use Rattle.reg_entry.specs.Blocks.{alignment}
-use Rattle.reg_entry.specs.Pieces.{card_at, size_sum, overlap, IsPoolRange, IsCard, ArePieces}
+use Rattle.reg_entry.specs.Pieces.{card_at, size_sum, overlap, IsCard, ArePieces}
 use Rattle.reg_entry.specs.Partition.{Partition, pieces_in, IsPartition, empty_partition}
-use Rattle.reg_entry.specs.Ranges.{space_rank, range_holds}
+use Rattle.reg_entry.specs.Ranges.{space_rank}
 use Rattle.reg_entry.specs.Entries.{painted_card, last_card, received_size, received_range, size_within}
 use Rattle.reg_entry.specs.Holders.{holder_number}
 use Rattle.reg_entry.specs.Reshaping.{split_at_number, joined_at}
 use Rattle.reg_entry.specs.Register.{Register, register_pieces, piece_of, card_of, pool_after, after_entry, after_entries, register_after, empty_register}
 use Rattle.reg_entry.specs.Covers.{first_number, number_before, range_from, cover_for, card_for, holder_card, kept_card}
-use Rattle.reg_entry.specs.Decision.{first_of, refuse_if, on_piece, outside_unicast, least_outside_unicast, least_unpooled, already_pooled, outside_pool, number_outside_pool, begins_space, begins_no_piece, not_in_one_piece, not_one_piece, wrong_status, cards_differ, is_status, early_rules}
+use Rattle.reg_entry.specs.Decision.{first_of, outside_unicast, least_outside_unicast, least_unpooled, already_pooled, outside_pool, number_outside_pool, begins_space, begins_no_piece, not_in_one_piece, not_one_piece, wrong_status, cards_differ, early_rules}
 use Rattle.reg_entry.specs.Next.{start_of, until_of, block_may_be, is_free_block, has_free, IsNextEntry, IsLegalFrom, IsLegal}
 use Rattle.reg_entry.specs.declared.rooms.Rooms.{Rooms}
 use Rattle.reg_laws.specs.Reshaping.{IsFixedAt, CanJoinAt}
 use Rattle.reg_laws.proofs.Sameness.{same_card-true}
 use Rattle.reg_laws.proofs.Accepting.{or_none, refuse_if_none, map_none, range_valid}
 use Rattle.reg_laws.proofs.Reshaped.{card_at-split, size_sum-split, split_keeps, card_at-joined_at, size_sum-joined_at, join_keeps}
-use Rattle.reg_laws.proofs.NextFacts.{NextFacts, next_facts, inside_one, exactly_one, one_is_inside, right_status, number_in_pool, allowed_if, on_the_piece, IsInPiece, IsOnePiece, IsFreePiece, free_piece}
+use Rattle.reg_laws.proofs.NextFacts.{next_facts, inside_one, exactly_one, one_is_inside, right_status, number_in_pool, allowed_if, on_the_piece, IsInPiece, IsOnePiece, free_piece}
 use Rattle.reg_laws.proofs.Painted.{IsConserved, unchanged, rearranged, painted_inside, received_conserves}
 
 -- ---- cards
@@ -71,7 +71,7 @@ unicast_bounds range e =
       | inl t ↦ absurd (none-some range.first (sym e ∙ cond-true (nat_lt range.first (2 ^ 125)) (Some range.first) (cond (nat_lt range.last (2 ^ 126)) None (Some (max range.first (2 ^ 126)))) t))
       | inr f ↦
           let rest : cond (nat_lt range.last (2 ^ 126)) None (Some (max range.first (2 ^ 126))) ≡ None =
-            sym (cond-false (nat_lt range.first (2 ^ 125)) (Some range.first) (cond (nat_lt range.last (2 ^ 126)) None (Some (max range.first (2 ^ 126)))) f) ∙ e in
+          sym (cond-false (nat_lt range.first (2 ^ 125)) (Some range.first) (cond (nat_lt range.last (2 ^ 126)) None (Some (max range.first (2 ^ 126)))) f) ∙ e in
           elim (cases_Bool (nat_lt range.last (2 ^ 126))) [
             | inl t ↦ (ltb-false range.first (2 ^ 125) f, ltb-true range.last (2 ^ 126) t)
             | inr g ↦ absurd (none-some (max range.first (2 ^ 126)) (sym rest ∙ cond-false (nat_lt range.last (2 ^ 126)) None (Some (max range.first (2 ^ 126))) g))
@@ -136,8 +136,8 @@ split_conserves r at cover h early =
     let ps : List Piece = pieces_in r.pool at.space in
     let all = h.each at.space in
     rearranged r.pool (Split at) cover at.space (split_at_number ps at.value) h (painted_nothing cover) refl
-      (split_keeps at.space ps at.value all (fixed_at r at c.0))
-      (λ x. card_at-split 0 ps at.value x all.rises) (size_sum-split 0 ps at.value all.rises)
+    (split_keeps at.space ps at.value all (fixed_at r at c.0))
+    (λ x. card_at-split 0 ps at.value x all.rises) (size_sum-split 0 ps at.value all.rises)
   where
     painted_nothing : (cover : Option PlainRange) → pool_after (Split at) cover None r.pool ≡ pool_after (Split at) None None r.pool
     painted_nothing None = refl
@@ -172,11 +172,12 @@ join_conserves r at cover h early =
       fixed = fixed;
     } in
     rearranged r.pool (Join at) cover at.space (joined_at ps at.value) h (painted_nothing cover) refl
-      (join_keeps at.space ps at.value all can)
-      (λ x. card_at-joined_at at.space ps at.value x all can) (size_sum-joined_at at.space ps at.value all can)
+    (join_keeps at.space ps at.value all can)
+    (λ x. card_at-joined_at at.space ps at.value x all can) (size_sum-joined_at at.space ps at.value all can)
   where
     positive : (n : ℕ) → (n ≡ 0 → ⊥) → 0 < n
     positive n h = omega arith
+
     painted_nothing : (cover : Option PlainRange) → pool_after (Join at) cover None r.pool ≡ pool_after (Join at) None None r.pool
     painted_nothing None = refl
     painted_nothing (Some range) = refl
@@ -189,16 +190,16 @@ by_request r (Receive range) day until start h valid early block =
     let a = or_none (outside_unicast range) _ early in
     let b = or_none (already_pooled r range) None a.1 in
     received_conserves r.pool (Receive range) range plain_card h refl refl (range_valid range valid)
-      (pool_range range.space range (map_none _ (least_outside_unicast range.space range) a.0)) plain_is_card
-      (map_none _ (overlap (register_pieces r range.space) range) b.0)
+    (pool_range range.space range (map_none _ (least_outside_unicast range.space range) a.0)) plain_is_card
+    (map_none _ (overlap (register_pieces r range.space) range) b.0)
 by_request r (AddHolder holder) day until start h valid early block = unchanged r.pool (AddHolder holder) None h refl refl
 by_request r (EditHolder holder) day until start h valid early block = unchanged r.pool (EditHolder holder) None h refl refl
 by_request r (Delegate space amount status handle) day until start h valid early block =
     let found = block_inside r space amount start h block in
     subst (λ s. IsConserved r.pool (Delegate space amount status handle) (cover_for r (Delegate space amount status handle) s) (card_for r (Delegate space amount status handle) day until))
-      (sym found.1)
-      (painted_inside r.pool (Delegate space amount status handle) (range_from space found.0 (amount_size space amount)) _ h refl refl found.2
-        (delegated_is_card status (holder_number r.holders handle) day 0))
+    (sym found.1)
+    (painted_inside r.pool (Delegate space amount status handle) (range_from space found.0 (amount_size space amount)) _ h refl refl found.2
+    (delegated_is_card status (holder_number r.holders handle) day 0))
 by_request r (Reserve range) day until start h valid early block =
     painted_inside r.pool (Reserve range) range (kept_card Reserved day 0) h refl refl (in_one r range (rules_behind (early_rules r (Reserve range))) valid early) (kept_is_card Reserved day 0 refl)
 by_request r (Unreserve range) day until start h valid early block =
@@ -207,7 +208,7 @@ by_request r (SubAssign range handle) day until start h valid early block = unch
 by_request r (SubReturn range) day until start h valid early block = unchanged r.pool (SubReturn range) (Some range) h refl refl
 by_request r (Return range handle) day until start h valid early block =
     painted_inside r.pool (Return range handle) range (kept_card Quarantine day until) h refl refl
-      (one_is_inside r.pool range (all_one r range (rules_behind (early_rules r (Return range handle))) valid early)) (kept_is_card Quarantine day until refl)
+    (one_is_inside r.pool range (all_one r range (rules_behind (early_rules r (Return range handle))) valid early)) (kept_is_card Quarantine day until refl)
 by_request r (Release range) day until start h valid early block =
     painted_inside r.pool (Release range) range plain_card h refl refl (one_is_inside r.pool range (all_one r range (rules_behind (early_rules r (Release range))) valid early)) plain_is_card
 by_request r (Split at) day until start h valid early block = split_conserves r at (cover_for r (Split at) start) h early
@@ -219,9 +220,9 @@ by_request r (Transfer range from to) day until start h valid early block =
     let c = or_none (wrong_status r (first_number range) is_delegated) _ b.1 in
     let delegated = right_status r (first_number range) is_delegated one.piece c.0 one.holds_first in
     subst (λ o. IsConserved r.pool (Transfer range from to) (Some range) (option_map (λ p. holder_card p.card.status (holder_number r.holders to) day until) o))
-      (sym one.holds_first)
-      (painted_inside r.pool (Transfer range from to) range (holder_card one.piece.card.status (holder_number r.holders to) day until) h refl refl
-        (one_is_inside r.pool range one) (transferred_is_card one.piece.card.status (holder_number r.holders to) day until delegated))
+    (sym one.holds_first)
+    (painted_inside r.pool (Transfer range from to) range (holder_card one.piece.card.status (holder_number r.holders to) day until) h refl refl
+    (one_is_inside r.pool range one) (transferred_is_card one.piece.card.status (holder_number r.holders to) day until delegated))
 by_request r (SetReverse range servers) day until start h valid early block = unchanged r.pool (SetReverse range servers) None h refl refl
 by_request r (ClearReverse range) day until start h valid early block = unchanged r.pool (ClearReverse range) None h refl refl
 
@@ -229,7 +230,7 @@ pub next_conserves : (r : Register) (e : PlainEntry) → IsPartition r.pool → 
 next_conserves r e h next =
     let facts = next_facts r e next in
     moved r.pool e.request _ e.cover _ e.card facts.cover facts.card
-      (by_request r e.request e.day (until_of e.card) (start_of e.cover) h facts.valid facts.early facts.block)
+    (by_request r e.request e.day (until_of e.card) (start_of e.cover) h facts.valid facts.early facts.block)
 
 -- ---- lists of entries
 
@@ -256,8 +257,8 @@ sizes_from r [] space h legal = omega arith
 sizes_from r (e ∷ es) space h legal =
     let step = next_conserves r e h legal.0 in
     sum_up (size_sum (register_pieces (after_entries (after_entry r e) es) space)) (received_size es space) (size_sum (register_pieces (after_entry r e) space))
-      (size_within space (received_range e.request)) (size_sum (register_pieces r space))
-      (sizes_from (after_entry r e) es space step.partition legal.1) (step.sizes space)
+    (size_within space (received_range e.request)) (size_sum (register_pieces r space))
+    (sizes_from (after_entry r e) es space step.partition legal.1) (step.sizes space)
   where
     sum_up : (a b c d f : ℕ) → a ≡ b + c → c ≡ d + f → a ≡ (d + b) + f
     sum_up a b c d f g h = omega arith

@@ -1,13 +1,11 @@
 -- What is known of an entry that may come next.
-use Rattle.std.proofs.Common.{◌≡◌, ℕ, ◌+◌, ◌-◌, ◌<◌, ◌≤◌, Bool, true, false, cond, not, ◌&&◌, ◌||◌, ◌==◌, nat_le, nat_lt, inl, inr, List, [], ◌∷◌, Option, None, Some, refl, sym, ◌∙◌, ap, subst, arith}
-use Rattle.std.specs.Option.{is_some, is_none, option_or, option_map, option_map_or, option_and_then, option_eq}
+use Rattle.std.proofs.Common.{◌≡◌, ℕ, ◌+◌, ◌≤◌, Bool, true, false, not, ◌&&◌, ◌==◌, nat_le, inl, inr, List, [], ◌∷◌, Option, None, Some, refl, sym, ◌∙◌, ap, arith}
+use Rattle.std.specs.Option.{is_some, is_none, option_and_then}
 use Rattle.std.specs.List.{list_any}
-use Rattle.std.proofs.lemmas.Bool.{cond-true, cond-false, cases_Bool, both_ways, and_parts, or_cases, leb-true, ltb-true, eqb-true, not-false, not-true, false_from_ne_true}
-use Rattle.std.proofs.lemmas.Option.{none-some, same_Some}
-use Rattle.num_range.specs.declared.space.Space.{Space}
+use Rattle.std.proofs.lemmas.Bool.{cond-true, cond-false, both_ways, and_parts, or_cases, leb-true, eqb-true, not-false, false_from_ne_true}
+use Rattle.std.proofs.lemmas.Option.{none-some}
 use Rattle.num_range.specs.Number.{PlainNumber}
-use Rattle.num_range.specs.Range.{PlainRange, IsRange}
-use Rattle.reg_entry.specs.declared.card.Card.{Card}
+use Rattle.num_range.specs.Range.{PlainRange}
 use Rattle.reg_entry.specs.declared.card.Status.{Status}
 use Rattle.reg_entry.specs.declared.piece.Piece.{Piece}
 use Rattle.reg_entry.specs.declared.refusal.Refusal.{Refusal}
@@ -16,15 +14,15 @@ use Rattle.reg_entry.specs.Entry.{PlainEntry}
 use Rattle.reg_entry.specs.Card.{is_available, same_card}
 use Rattle.reg_entry.specs.Request.{is_range, is_request}
 use Rattle.reg_entry.specs.Pieces.{holds, piece_at, RisesFrom}
-use Rattle.reg_entry.specs.Partition.{Partition, pieces_in}
+use Rattle.reg_entry.specs.Partition.{Partition}
 use Rattle.reg_entry.specs.Ranges.{same_range, same_space, lies_inside}
-use Rattle.reg_entry.specs.Register.{Register, register_pieces, piece_of}
+use Rattle.reg_entry.specs.Register.{Register, piece_of}
 use Rattle.reg_entry.specs.Covers.{first_number, cover_for, card_for}
-use Rattle.reg_entry.specs.Decision.{first_of, refuse_if, on_piece, outside_pool, number_outside_pool, not_in_one_piece, not_one_piece, wrong_status, early_rules, late_refusal}
-use Rattle.reg_entry.specs.Next.{has_free, start_of, block_may_be, until_of, until_may_be, day_may_be, same_cover, same_painted, may_come_next, IsNextEntry}
+use Rattle.reg_entry.specs.Decision.{first_of, refuse_if, outside_pool, number_outside_pool, not_in_one_piece, not_one_piece, wrong_status, early_rules, late_refusal}
+use Rattle.reg_entry.specs.Next.{has_free, start_of, block_may_be, until_of, until_may_be, day_may_be, same_cover, same_painted, IsNextEntry}
 use Rattle.reg_entry.proofs.Holding.{holds_true, piece_at-below}
 use Rattle.reg_laws.proofs.Sameness.{same_range-true, same_card-true, option_eq-true}
-use Rattle.reg_laws.proofs.Accepting.{or_none, refuse_if_none, range_valid, first_in_pool}
+use Rattle.reg_laws.proofs.Accepting.{refuse_if_none, range_valid, first_in_pool}
 
 pub record NextFacts (r : Register) (e : PlainEntry) : Type 0 where
   pub valid : is_request e.request ≡ true
@@ -151,8 +149,8 @@ free_piece low (p ∷ ps) first last rises e =
       | inr rest ↦
           let found = free_piece (p.range.last + 1) ps first last rises.2 rest in
           let unheld : holds p first ≡ false = false_from_ne_true (holds p first) (λ t.
-            let inside = holds_true p first t in
-            none-some found.piece (sym (piece_at-below (p.range.last + 1) ps first rises.2 (omega arith)) ∙ found.holds_first)) in
+          let inside = holds_true p first t in
+          none-some found.piece (sym (piece_at-below (p.range.last + 1) ps first rises.2 (omega arith)) ∙ found.holds_first)) in
           record {
             piece = found.piece;
             holds_first = cond-false (holds p first) (Some p) (piece_at ps first) unheld ∙ found.holds_first;

@@ -1,8 +1,7 @@
 -- What an entry's cover and card make of the pool.
-use Rattle.std.proofs.Common.{◌≡◌, ℕ, ◌+◌, ◌-◌, ◌^◌, ◌<◌, ◌≤◌, Bool, true, false, cond, ◌&&◌, nat_le, inl, inr, List, [], ◌∷◌, Option, None, Some, refl, sym, ◌∙◌, ap, subst, arith}
-use Rattle.std.specs.Option.{is_some, option_or, option_map}
-use Rattle.std.specs.List.{find}
-use Rattle.std.proofs.lemmas.Bool.{cond_both, cond-true, cond-false, cases_Bool, cases_lt, both_ways, leb-true, leb-false, le-leb, lt-leb, and_left, and_right}
+use Rattle.std.proofs.Common.{◌≡◌, ℕ, ◌+◌, ◌<◌, ◌≤◌, Bool, true, false, cond, ◌&&◌, nat_le, inl, inr, List, [], ◌∷◌, Option, None, Some, refl, sym, ◌∙◌, ap, subst, arith}
+use Rattle.std.specs.Option.{option_or}
+use Rattle.std.proofs.lemmas.Bool.{cond_both, cond-true, cond-false, cases_Bool, cases_lt, both_ways, lt-leb, and_right}
 use Rattle.std.proofs.lemmas.Option.{none-some, same_Some}
 use Rattle.num_range.specs.declared.space.Space.{Space}
 use Rattle.num_range.specs.declared.space.Space.TheVariants.{Asn, Ipv4, Ipv6}
@@ -16,14 +15,13 @@ use Rattle.reg_entry.specs.Pieces.{holds, meets, piece_at, card_at, first_met, o
 use Rattle.reg_entry.specs.Partition.{Partition, pieces_in, with_pieces, IsPartition}
 use Rattle.reg_entry.specs.Ranges.{same_space}
 use Rattle.reg_entry.specs.Entries.{covers, received_range, size_within}
-use Rattle.reg_entry.specs.Register.{piece_of, card_of, reshaped, painted, pool_after}
-use Rattle.reg_entry.specs.Covers.{first_number}
+use Rattle.reg_entry.specs.Register.{card_of, reshaped, painted, pool_after}
 use Rattle.reg_entry.proofs.Holding.{holds_true, holds_from, piece_at-below}
 use Rattle.reg_entry.proofs.Laying.{laid_keeps}
 use Rattle.reg_entry.proofs.Lookups.{card_at-laid}
 use Rattle.reg_entry.proofs.Sizes.{size_sum-received, size_sum-repainted}
 use Rattle.reg_entry.proofs.Overlaps.{meets_from}
-use Rattle.reg_laws.proofs.Sameness.{same_space-true, same_space-refl}
+use Rattle.reg_laws.proofs.Sameness.{same_space-true}
 use Rattle.reg_laws.proofs.NextFacts.{IsInPiece}
 
 -- ---- other pieces in a space
@@ -44,7 +42,7 @@ pub with_pieces_has : (P : Space → List Piece → Type 0) (pool : Partition) (
     → P t (pieces_in (with_pieces pool s ps) t)
 with_pieces_has P pool s t ps new old =
     subst (P t) (sym (pieces_in-with pool s t ps))
-      (cond_both (same_space s t) ps (pieces_in pool t) (P t) (λ e. subst (λ u. P u ps) (same_space-true s t e) new) (λ e. old))
+    (cond_both (same_space s t) ps (pieces_in pool t) (P t) (λ e. subst (λ u. P u ps) (same_space-true s t e) new) (λ e. old))
 
 pub with_pieces_keeps : (pool : Partition) (s : Space) (ps : List Piece) → IsPartition pool → ArePieces s ps → IsPartition (with_pieces pool s ps)
 with_pieces_keeps pool s ps h new = record { each = λ t. with_pieces_has ArePieces pool s t ps new (h.each t) }
@@ -56,7 +54,7 @@ pub record IsConserved (pool : Partition) (request : Request) (cover : Option Pl
   pub partition : IsPartition (pool_after request cover card pool)
   pub cards : (n : PlainNumber) → card_of (pool_after request cover card pool) n ≡ option_or (cond (covers cover n) card None) (card_of pool n)
   pub sizes : (space : Space) → size_sum (pieces_in (pool_after request cover card pool) space)
-    ≡ size_within space (received_range request) + size_sum (pieces_in pool space)
+      ≡ size_within space (received_range request) + size_sum (pieces_in pool space)
 
 no_card : (b : Bool) (o : Option Card) → o ≡ option_or (cond b None None) o
 no_card true o = refl
@@ -89,13 +87,13 @@ rearranged pool request cover s ps h same nothing new cards sizes =
     record {
       partition = subst IsPartition (sym same) (with_pieces_keeps pool s ps h new);
       cards = λ n.
-        ap (λ q. card_of q n) same
-        ∙ with_pieces_has (λ t qs. card_at qs n.value ≡ card_at (pieces_in pool t) n.value) pool s n.space ps (cards n.value) refl
-        ∙ no_card (covers cover n) (card_of pool n);
+          ap (λ q. card_of q n) same
+          ∙ with_pieces_has (λ t qs. card_at qs n.value ≡ card_at (pieces_in pool t) n.value) pool s n.space ps (cards n.value) refl
+          ∙ no_card (covers cover n) (card_of pool n);
       sizes = λ space.
-        ap (λ q. size_sum (pieces_in q space)) same
-        ∙ with_pieces_has (λ t qs. size_sum qs ≡ size_sum (pieces_in pool t)) pool s space ps sizes refl
-        ∙ old_sizes pool request space nothing;
+          ap (λ q. size_sum (pieces_in q space)) same
+          ∙ with_pieces_has (λ t qs. size_sum qs ≡ size_sum (pieces_in pool t)) pool s space ps sizes refl
+          ∙ old_sizes pool request space nothing;
     }
 
 -- ---- painting
@@ -103,7 +101,7 @@ rearranged pool request cover s ps h same nothing new cards sizes =
 -- in the painted space the look-up is that of the painted pieces
 painted_card : (pool : Partition) (r : PlainRange) (c : Card) (n : PlainNumber) → ArePieces r.space (pieces_in pool r.space) → IsRange r → IsCard c
     → card_of (with_pieces pool r.space (laid (pieces_in pool r.space) r c)) n
-      ≡ option_or (cond (same_space r.space n.space && nat_le r.first n.value && nat_le n.value r.last) (Some c) None) (card_of pool n)
+    ≡ option_or (cond (same_space r.space n.space && nat_le r.first n.value && nat_le n.value r.last) (Some c) None) (card_of pool n)
 painted_card pool r c n h range card =
     ap (λ qs. card_at qs n.value) (pieces_in-with pool r.space n.space (laid (pieces_in pool r.space) r c))
     ∙ elim (cases_Bool (same_space r.space n.space)) [
@@ -126,14 +124,14 @@ painted_card pool r c n h range card =
 pub painted_conserves : (pool : Partition) (request : Request) (r : PlainRange) (c : Card) → IsPartition pool → reshaped request pool ≡ pool
     → IsRange r → IsPoolRange r → IsCard c
     → ((space : Space) → size_sum (pieces_in (with_pieces pool r.space (laid (pieces_in pool r.space) r c)) space)
-        ≡ size_within space (received_range request) + size_sum (pieces_in pool space))
+    ≡ size_within space (received_range request) + size_sum (pieces_in pool space))
     → IsConserved pool request (Some r) (Some c)
 painted_conserves pool request r c h still range pooled card sizes =
     let new : Partition = with_pieces pool r.space (laid (pieces_in pool r.space) r c) in
     let same : pool_after request (Some r) (Some c) pool ≡ new = ap (painted (Some r) (Some c)) still in
     record {
       partition = subst IsPartition (sym same) (with_pieces_keeps pool r.space (laid (pieces_in pool r.space) r c) h
-        (laid_keeps r.space (pieces_in pool r.space) r c (h.each r.space) refl range pooled card));
+          (laid_keeps r.space (pieces_in pool r.space) r c (h.each r.space) refl range pooled card));
       cards = λ n. ap (λ q. card_of q n) same ∙ painted_card pool r c n (h.each r.space) range card;
       sizes = λ space. ap (λ q. size_sum (pieces_in q space)) same ∙ sizes space;
     }
@@ -148,7 +146,7 @@ piece_is_of space (q ∷ qs) x p each e =
       | inl t ↦
           let same : q ≡ p = same_Some q p (sym (cond-true (holds q x) (Some q) (piece_at qs x) t) ∙ e) in
           subst (λ y. IsPieceOf space y × (y.range.first ≤ x) × (x ≤ y.range.last)) same
-            (let inside = holds_true q x t in (each.0, inside.0, inside.1))
+          (let inside = holds_true q x t in (each.0, inside.0, inside.1))
       | inr f ↦ piece_is_of space qs x p each.1 (sym (cond-false (holds q x) (Some q) (piece_at qs x) f) ∙ e)
     ]
 
@@ -190,10 +188,10 @@ painted_inside pool request r c h still nothing inside card =
     let pooled : IsPoolRange r = λ six. let b = is.0.pooled (is.0.of_space ∙ six) in (omega arith, omega arith) in
     let met : first_met ps r ≡ Some inside.piece = met_first 0 ps r inside.piece all.rises inside.holds_first order in
     painted_conserves pool request r c h still range pooled card
-      (λ space.
-        with_pieces_has (λ t qs. size_sum qs ≡ size_sum (pieces_in pool t)) pool r.space space (laid ps r c)
-          (size_sum-repainted r.space ps r c inside.piece all range met is.1 last) refl
-        ∙ old_sizes pool request space nothing)
+    (λ space.
+    with_pieces_has (λ t qs. size_sum qs ≡ size_sum (pieces_in pool t)) pool r.space space (laid ps r c)
+    (size_sum-repainted r.space ps r c inside.piece all range met is.1 last) refl
+    ∙ old_sizes pool request space nothing)
 
 -- ---- receiving
 
@@ -223,6 +221,6 @@ pub received_conserves : (pool : Partition) (request : Request) (r : PlainRange)
     → IsConserved pool request (Some r) (Some c)
 received_conserves pool request r c h still is range pooled card free =
     painted_conserves pool request r c h still range pooled card
-      (λ space.
-        received_sizes pool r c space (size_sum-received r.space (pieces_in pool r.space) r c (h.each r.space) range free)
-        ∙ ap (λ o. size_within space o + size_sum (pieces_in pool space)) (sym is))
+    (λ space.
+    received_sizes pool r c space (size_sum-received r.space (pieces_in pool r.space) r c (h.each r.space) range free)
+    ∙ ap (λ o. size_within space o + size_sum (pieces_in pool space)) (sym is))

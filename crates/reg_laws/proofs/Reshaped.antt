@@ -1,20 +1,18 @@
 -- Splitting and joining keep what the pieces of a space are, each number's card, and how many numbers there are.
 use Rattle.std.proofs.Common.{◌≡◌, ℕ, ◌+◌, ◌-◌, ◌<◌, ◌≤◌, Bool, true, false, cond, ◌&&◌, ◌==◌, nat_le, nat_lt, ◌⊎◌, inl, inr, List, [], ◌∷◌, ◌++◌, Option, None, Some, refl, sym, ◌∙◌, ap, subst, arith}
-use Rattle.std.specs.List.{flat_map, find}
-use Rattle.std.proofs.lemmas.Bool.{cond_both, cond-true, cond-false, cases_Bool, cases_lt, both_ways, and_from, and_parts, and_left, and_right, and_cases, le-leb, lt-leb, leb-true, leb-false, lt-ltb, le-ltb, ltb-true, ltb-false, eqb-true, eqb-false, eq-eqb, false_from_ne_true}
+use Rattle.std.proofs.lemmas.Bool.{cond-true, cond-false, cases_Bool, cases_lt, both_ways, and_parts, and_left, and_right, le-leb, leb-true, le-ltb, ltb-true, eqb-true, eqb-false, eq-eqb, false_from_ne_true}
 use Rattle.std.proofs.lemmas.Option.{none-some, same_Some}
 use Rattle.num_range.specs.declared.space.Space.{Space}
 use Rattle.num_range.specs.Space.{top_of}
-use Rattle.num_range.specs.Range.{PlainRange, size_of}
-use Rattle.reg_entry.specs.declared.card.Card.{Card}
+use Rattle.num_range.specs.Range.{size_of}
 use Rattle.reg_entry.specs.declared.piece.Piece.{Piece}
 use Rattle.reg_entry.specs.Card.{is_available}
-use Rattle.reg_entry.specs.Pieces.{holds, piece_at, card_at, size_sum, can_join, joined_pair, RisesFrom, IsSettledAfter, IsSettled, IsPoolRange, IsPieceOf, AllPiecesOf, ArePieces}
-use Rattle.reg_entry.specs.Reshaping.{holds_past_first, split_piece, split_at_number, joined_at_after, joined_at}
+use Rattle.reg_entry.specs.Pieces.{holds, piece_at, card_at, size_sum, can_join, joined_pair, RisesFrom, IsSettledAfter, IsSettled, AllPiecesOf, ArePieces}
+use Rattle.reg_entry.specs.Reshaping.{holds_past_first, split_at_number, joined_at_after, joined_at}
 use Rattle.reg_laws.specs.Reshaping.{IsFixedAt, CanJoinAt}
-use Rattle.reg_entry.proofs.Holding.{piece_at-below, holds_true, holds_from, not_held_below, not_held_above, within_from, below_false, above_false}
-use Rattle.reg_entry.proofs.Joining.{rises_from_lower, joined_pair_is_piece}
-use Rattle.reg_entry.proofs.Lookups.{card_at-cons, card_at-first, card_at-rest, card_at-alike}
+use Rattle.reg_entry.proofs.Holding.{piece_at-below, holds_true, holds_from, not_held_above, below_false, above_false}
+use Rattle.reg_entry.proofs.Joining.{joined_pair_is_piece}
+use Rattle.reg_entry.proofs.Lookups.{card_at-cons, card_at-alike}
 
 -- ---- splitting
 
@@ -29,8 +27,8 @@ split_above : (low at : ℕ) (ps : List Piece) → RisesFrom low ps → at < low
 split_above low at [] rises h = refl
 split_above low at (p ∷ ps) rises h =
     ap (λ xs. xs ++ split_at_number ps at)
-      (cond-false (holds_past_first p at) (left_part p at ∷ right_part p at ∷ []) (p ∷ [])
-        (and_left (nat_lt p.range.first at) (nat_le at p.range.last) (not_above p.range.first at (omega arith))))
+    (cond-false (holds_past_first p at) (left_part p at ∷ right_part p at ∷ []) (p ∷ [])
+    (and_left (nat_lt p.range.first at) (nat_le at p.range.last) (not_above p.range.first at (omega arith))))
     ∙ ap (λ xs. p ∷ xs) (split_above (p.range.last + 1) at ps rises.2 (omega arith))
   where
     not_above : (a b : ℕ) → b ≤ a → nat_lt a b ≡ false
@@ -60,7 +58,7 @@ split_rises low (p ∷ ps) at rises =
       | inl t ↦
           let inside = past_first p at t in
           subst (RisesFrom low) (sym (split_first p ps at rises.2 t))
-            (rises.0, omega arith, (omega arith, omega arith, rises.2))
+          (rises.0, omega arith, (omega arith, omega arith, rises.2))
       | inr f ↦ subst (RisesFrom low) (sym (split_rest p ps at f)) (rises.0, rises.1, split_rises (p.range.last + 1) ps at rises.2)
     ]
 
@@ -107,7 +105,7 @@ card_at-split low (p ∷ ps) at x rises =
 cannot_join_left : (p q : Piece) → is_available p.card.status ≡ false → can_join p q ≡ false
 cannot_join_left p q f =
     and_left ((p.range.last + 1 == q.range.first) && is_available p.card.status) (is_available q.card.status)
-      (and_right (p.range.last + 1 == q.range.first) (is_available p.card.status) f)
+    (and_right (p.range.last + 1 == q.range.first) (is_available p.card.status) f)
 
 cannot_join_right : (p q : Piece) → is_available q.card.status ≡ false → can_join p q ≡ false
 cannot_join_right p q f = and_right ((p.range.last + 1 == q.range.first) && is_available p.card.status) (is_available q.card.status) f
@@ -130,22 +128,26 @@ settled_before_split p low (q ∷ qs) at rises settled fixed =
       | inl t ↦
           let no : is_available q.card.status ≡ false = fixed_first q qs at (held_if_past q at t) fixed in
           subst (IsSettledAfter p) (sym (split_first q qs at rises.2 t))
-            (settled.0, (cannot_join_left (left_part q at) (right_part q at) no, settled_alike (right_part q at) q qs refl refl settled.1))
+          (settled.0, (cannot_join_left (left_part q at) (right_part q at) no, settled_alike (right_part q at) q qs refl refl settled.1))
       | inr f ↦
-          subst (IsSettledAfter p) (sym (split_rest q qs at f))
-            (settled.0, elim (cases_Bool (holds q at)) [
+          subst (IsSettledAfter p) (sym (split_rest q qs at f)) (
+            settled.0,
+            elim (cases_Bool (holds q at)) [
               | inl h ↦
                   let inside = holds_true q at h in
                   subst (IsSettledAfter q) (sym (split_above (q.range.last + 1) at qs rises.2 (omega arith))) settled.1
               | inr g ↦ settled_before_split q (q.range.last + 1) qs at rises.2 settled.1 (fixed_rest q qs at g fixed)
-            ])
+            ],
+          )
     ]
   where
     settled_alike : (p q : Piece) (qs : List Piece) → p.range.last ≡ q.range.last → p.card ≡ q.card → IsSettledAfter q qs → IsSettledAfter p qs
     settled_alike p q [] e c h = tt
-    settled_alike p q (s ∷ qs) e c h =
-      (ap (λ n. (n + 1 == s.range.first) && is_available p.card.status && is_available s.card.status) e
-       ∙ ap (λ d. (q.range.last + 1 == s.range.first) && is_available d.status && is_available s.card.status) c ∙ h.0, h.1)
+    settled_alike p q (s ∷ qs) e c h = (
+      ap (λ n. (n + 1 == s.range.first) && is_available p.card.status && is_available s.card.status) e
+          ∙ ap (λ d. (q.range.last + 1 == s.range.first) && is_available d.status && is_available s.card.status) c ∙ h.0,
+      h.1,
+    )
 
 pub split_settled : (low : ℕ) (ps : List Piece) (at : ℕ) → RisesFrom low ps → IsSettled ps → IsFixedAt ps at → IsSettled (split_at_number ps at)
 split_settled low [] at rises settled fixed = tt
@@ -154,15 +156,15 @@ split_settled low (p ∷ ps) at rises settled fixed =
       | inl t ↦
           let no : is_available p.card.status ≡ false = fixed_first p ps at (held_if_past p at t) fixed in
           subst IsSettled (sym (split_first p ps at rises.2 t))
-            (cannot_join_left (left_part p at) (right_part p at) no, same_after p ps settled)
+          (cannot_join_left (left_part p at) (right_part p at) no, same_after p ps settled)
       | inr f ↦
           subst IsSettled (sym (split_rest p ps at f))
-            (elim (cases_Bool (holds p at)) [
-              | inl h ↦
-                  let inside = holds_true p at h in
-                  subst (IsSettledAfter p) (sym (split_above (p.range.last + 1) at ps rises.2 (omega arith))) settled
-              | inr g ↦ settled_before_split p (p.range.last + 1) ps at rises.2 settled (fixed_rest p ps at g fixed)
-            ])
+          (elim (cases_Bool (holds p at)) [
+            | inl h ↦
+                let inside = holds_true p at h in
+                subst (IsSettledAfter p) (sym (split_above (p.range.last + 1) at ps rises.2 (omega arith))) settled
+            | inr g ↦ settled_before_split p (p.range.last + 1) ps at rises.2 settled (fixed_rest p ps at g fixed)
+          ])
     ]
   where
     same_after : (p : Piece) (ps : List Piece) → IsSettledAfter p ps → IsSettledAfter (right_part p at) ps
@@ -176,28 +178,32 @@ split_pieces space low (p ∷ ps) at rises h =
       | inl t ↦
           let inside = past_first p at t in
           let top : p.range.last ≤ top_of space = h.0.within in
-          subst (AllPiecesOf space) (sym (split_first p ps at rises.2 t))
-            (record {
-               of_space = h.0.of_space;
-               within = omega arith;
-               pooled = λ e. let b = h.0.pooled e in (b.0, omega arith);
-               plain = h.0.plain;
-             },
-             (record {
-               of_space = h.0.of_space;
-               within = h.0.within;
-               pooled = λ e. let b = h.0.pooled e in (omega arith, b.1);
-               plain = h.0.plain;
-             }, h.1))
+          subst (AllPiecesOf space) (sym (split_first p ps at rises.2 t)) (
+            record {
+              of_space = h.0.of_space;
+              within = omega arith;
+              pooled = λ e. let b = h.0.pooled e in (b.0, omega arith);
+              plain = h.0.plain;
+            },
+            (
+              record {
+                of_space = h.0.of_space;
+                within = h.0.within;
+                pooled = λ e. let b = h.0.pooled e in (omega arith, b.1);
+                plain = h.0.plain;
+              },
+              h.1,
+            ),
+          )
       | inr f ↦ subst (AllPiecesOf space) (sym (split_rest p ps at f)) (h.0, split_pieces space (p.range.last + 1) ps at rises.2 h.1)
     ]
 
 pub split_keeps : (space : Space) (ps : List Piece) (at : ℕ) → ArePieces space ps → IsFixedAt ps at → ArePieces space (split_at_number ps at)
 split_keeps space ps at h fixed = record {
-    rises = split_rises 0 ps at h.rises;
-    settled = split_settled 0 ps at h.rises h.settled fixed;
-    each = split_pieces space 0 ps at h.rises h.each;
-  }
+  rises = split_rises 0 ps at h.rises;
+  settled = split_settled 0 ps at h.rises h.settled fixed;
+  each = split_pieces space 0 ps at h.rises h.each;
+}
 
 -- ---- joining
 
@@ -220,8 +226,8 @@ join_cases low p q qs at rises can =
           let inside = holds_true p (at - 1) left.0 in
           let unheld : holds p at ≡ false = not_held_above p at (omega arith) in
           let right : q ≡ can.right = same_Some q can.right
-            (sym (cond-true (holds q at) (Some q) (piece_at qs at) (holds_from q at (omega arith) (let order = rises.2.1 in omega arith)))
-             ∙ sym (cond-false (holds p at) (Some p) (piece_at (q ∷ qs) at) unheld) ∙ can.holds_at) in
+          (sym (cond-true (holds q at) (Some q) (piece_at qs at) (holds_from q at (omega arith) (let order = rises.2.1 in omega arith)))
+          ∙ sym (cond-false (holds p at) (Some p) (piece_at (q ∷ qs) at) unheld) ∙ can.holds_at) in
           let one : p.card ≡ q.card = ap (λ r. r.card) left.1 ∙ can.one_card ∙ sym (ap (λ r. r.card) right) in
           inl (record {
             begins = begins;
@@ -232,33 +238,36 @@ join_cases low p q qs at rises can =
       | inr f ↦
           let other : q.range.first ≡ at → ⊥ = eqb-false q.range.first at f in
           let not_at : holds p at ≡ false = false_from_ne_true (holds p at) (λ h.
-            let same : p ≡ can.right = same_Some p can.right (sym (cond-true (holds p at) (Some p) (piece_at (q ∷ qs) at) h) ∙ can.holds_at) in
-            let begins : p.range.first ≡ at = ap (λ r. r.range.first) same ∙ can.begins in
-            let none : piece_at (p ∷ q ∷ qs) (at - 1) ≡ None =
-              piece_at-below p.range.first (p ∷ q ∷ qs) (at - 1) (omega arith, rises.1, rises.2) (let pos = can.positive in omega arith) in
-            none-some can.left (sym none ∙ can.holds_before)) in
+          let same : p ≡ can.right = same_Some p can.right (sym (cond-true (holds p at) (Some p) (piece_at (q ∷ qs) at) h) ∙ can.holds_at) in
+          let begins : p.range.first ≡ at = ap (λ r. r.range.first) same ∙ can.begins in
+          let none : piece_at (p ∷ q ∷ qs) (at - 1) ≡ None =
+          piece_at-below p.range.first (p ∷ q ∷ qs) (at - 1) (omega arith, rises.1, rises.2) (let pos = can.positive in omega arith) in
+          none-some can.left (sym none ∙ can.holds_before)) in
           let holds_at : piece_at (q ∷ qs) at ≡ Some can.right = sym (cond-false (holds p at) (Some p) (piece_at (q ∷ qs) at) not_at) ∙ can.holds_at in
           let not_before : holds p (at - 1) ≡ false = false_from_ne_true (holds p (at - 1)) (λ h.
-            let inside = holds_true p (at - 1) h in
-            let ends : p.range.last + 1 ≡ at = elim (cases_lt p.range.last at) [
-              | inl lt ↦ let pos = can.positive in omega arith
-              | inr ge ↦ absurd (both_ways (holds p at) not_at (holds_from p at (let pos = can.positive in omega arith) ge))
-            ] in
-            let later : at < q.range.first = elim (cases_lt at q.range.first) [
-              | inl lt ↦ lt
-              | inr ge ↦ absurd (other (let next = rises.2.0 in omega arith))
-            ] in
-            none-some can.right (sym (piece_at-below q.range.first (q ∷ qs) at (omega arith, rises.2.1, rises.2.2) later) ∙ holds_at)) in
-          inr (f, record {
-            left = can.left;
-            right = can.right;
-            positive = can.positive;
-            holds_before = sym (cond-false (holds p (at - 1)) (Some p) (piece_at (q ∷ qs) (at - 1)) not_before) ∙ can.holds_before;
-            holds_at = holds_at;
-            begins = can.begins;
-            one_card = can.one_card;
-            fixed = can.fixed;
-          })
+          let inside = holds_true p (at - 1) h in
+          let ends : p.range.last + 1 ≡ at = elim (cases_lt p.range.last at) [
+            | inl lt ↦ let pos = can.positive in omega arith
+            | inr ge ↦ absurd (both_ways (holds p at) not_at (holds_from p at (let pos = can.positive in omega arith) ge))
+          ] in
+          let later : at < q.range.first = elim (cases_lt at q.range.first) [
+            | inl lt ↦ lt
+            | inr ge ↦ absurd (other (let next = rises.2.0 in omega arith))
+          ] in
+          none-some can.right (sym (piece_at-below q.range.first (q ∷ qs) at (omega arith, rises.2.1, rises.2.2) later) ∙ holds_at)) in
+          inr (
+            f,
+            record {
+              left = can.left;
+              right = can.right;
+              positive = can.positive;
+              holds_before = sym (cond-false (holds p (at - 1)) (Some p) (piece_at (q ∷ qs) (at - 1)) not_before) ∙ can.holds_before;
+              holds_at = holds_at;
+              begins = can.begins;
+              one_card = can.one_card;
+              fixed = can.fixed;
+            },
+          )
     ]
   where
     held_by_first : (b : Bool) (p : Piece) (o : Option Piece) (l : Piece) → cond b (Some p) o ≡ Some l → o ≡ None → (b ≡ true) × (p ≡ l)
@@ -301,7 +310,7 @@ either_part : {A : Type 0} (first last next end x : ℕ) (u o : A) → first ≤
     → cond (nat_le first x && nat_le x end) u o ≡ cond (nat_le first x && nat_le x last) u (cond (nat_le next x && nat_le x end) u o)
 either_part first last next end x u o h e k =
     sym (ap (λ n. cond (nat_le first x && nat_le x n) u (cond (nat_le next x && nat_le x end) u o)) (let back : last ≡ next - 1 = omega arith in back)
-         ∙ two_parts first next end x u o (omega arith) k)
+    ∙ two_parts first next end x u o (omega arith) k)
 
 pub card_at-join : (low : ℕ) (p : Piece) (qs : List Piece) (at x : ℕ) → RisesFrom low (p ∷ qs) → CanJoinAt (p ∷ qs) at
     → card_at (joined_at_after p qs at) x ≡ card_at (p ∷ qs) x
@@ -332,7 +341,7 @@ settled_before_join low s p (q ∷ qs) at rises can h settled =
       | inl m ↦ subst (IsSettledAfter s) (sym (join_first p q qs at m.begins)) (h, settled_joined p q qs m.fixed settled.1)
       | inr n ↦
           subst (IsSettledAfter s) (sym (join_rest p q qs at n.0))
-            (h, settled_before_join (p.range.last + 1) p q qs at rises.2 n.1 settled.0 settled.1)
+          (h, settled_before_join (p.range.last + 1) p q qs at rises.2 n.1 settled.0 settled.1)
     ]
 
 pub join_settled : (low : ℕ) (p : Piece) (qs : List Piece) (at : ℕ) → RisesFrom low (p ∷ qs) → CanJoinAt (p ∷ qs) at → IsSettledAfter p qs
@@ -357,10 +366,10 @@ join_pieces space low p (q ∷ qs) at rises can h =
 pub join_keeps : (space : Space) (ps : List Piece) (at : ℕ) → ArePieces space ps → CanJoinAt ps at → ArePieces space (joined_at ps at)
 join_keeps space [] at h can = h
 join_keeps space (p ∷ ps) at h can = record {
-    rises = join_rises 0 p ps at h.rises can;
-    settled = join_settled 0 p ps at h.rises can h.settled;
-    each = join_pieces space 0 p ps at h.rises can h.each;
-  }
+  rises = join_rises 0 p ps at h.rises can;
+  settled = join_settled 0 p ps at h.rises can h.settled;
+  each = join_pieces space 0 p ps at h.rises can h.each;
+}
 
 pub card_at-joined_at : (space : Space) (ps : List Piece) (at x : ℕ) → ArePieces space ps → CanJoinAt ps at → card_at (joined_at ps at) x ≡ card_at ps x
 card_at-joined_at space [] at x h can = refl

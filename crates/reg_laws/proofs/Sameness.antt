@@ -56,8 +56,8 @@ same_range-true r s e =
 pub same_range-refl : (r : PlainRange) → same_range r r ≡ true
 same_range-refl r =
     and_from (same_space r.space r.space && (r.first == r.first)) (r.last == r.last)
-      (and_from (same_space r.space r.space) (r.first == r.first) (same_space-refl r.space) (eq-eqb r.first r.first refl))
-      (eq-eqb r.last r.last refl)
+    (and_from (same_space r.space r.space) (r.first == r.first) (same_space-refl r.space) (eq-eqb r.first r.first refl))
+    (eq-eqb r.last r.last refl)
 
 -- ---- cards
 
@@ -109,11 +109,11 @@ same_card-true a b e =
 pub same_card-refl : (c : Card) → same_card c c ≡ true
 same_card-refl c =
     and_from (same_status c.status c.status && option_eq nat_eq c.holder c.holder && (c.day == c.day)) (c.until == c.until)
-      (and_from (same_status c.status c.status && option_eq nat_eq c.holder c.holder) (c.day == c.day)
-        (and_from (same_status c.status c.status) (option_eq nat_eq c.holder c.holder) (same_status-refl c.status)
-          (option_eq-refl nat_eq (λ n. eq-eqb n n refl) c.holder))
-        (eq-eqb c.day c.day refl))
-      (eq-eqb c.until c.until refl)
+    (and_from (same_status c.status c.status && option_eq nat_eq c.holder c.holder) (c.day == c.day)
+    (and_from (same_status c.status c.status) (option_eq nat_eq c.holder c.holder) (same_status-refl c.status)
+    (option_eq-refl nat_eq (λ n. eq-eqb n n refl) c.holder))
+    (eq-eqb c.day c.day refl))
+    (eq-eqb c.until c.until refl)
 
 -- ---- bytes and hosts
 

@@ -15,13 +15,8 @@ ghost use Rattle.reg_entry.specs.Next.{IsLegal};
 /// did; and the pieces of each space have just as many numbers as were received.
 pub fn legal_entries_conserve()
     ensures pieces { (rooms : Rooms) (es : List PlainEntry) → IsLegal rooms es → IsPartition (register_after rooms es).pool }
-    ensures cards {
-        (rooms : Rooms) (es : List PlainEntry) (n : PlainNumber) → IsLegal rooms es
-            → card_of (register_after rooms es).pool n ≡ last_card es n
-    }
-    ensures sizes {
-        (rooms : Rooms) (es : List PlainEntry) (space : Space) → IsLegal rooms es
-            → size_sum (register_pieces (register_after rooms es) space) ≡ received_size es space
-    }
-{
-}
+    ensures cards { (rooms : Rooms) (es : List PlainEntry) (n : PlainNumber) → IsLegal rooms es
+        → card_of (register_after rooms es).pool n ≡ last_card es n }
+    ensures sizes { (rooms : Rooms) (es : List PlainEntry) (space : Space) → IsLegal rooms es
+        → size_sum (register_pieces (register_after rooms es) space) ≡ received_size es space }
+{}

@@ -11,10 +11,7 @@ ghost use Rattle.reg_entry.specs.Next.{IsNextEntry};
 
 /// Each entry that the decision gives may come next, whatever the policy says.
 pub fn accepted_may_come_next()
-    ensures {
-        (r : Register) (p : PlainPolicy) (day : ℕ) (who : List ℕ) (request : Request) → IsPartition r.pool
-            → r.last_day ≤ last_date → IsPolicy p → is_request request ≡ true
-            → IfAccepted (decision r p day who request) (IsNextEntry r)
-    }
-{
-}
+    ensures { (r : Register) (p : PlainPolicy) (day : ℕ) (who : List ℕ) (request : Request) → IsPartition r.pool
+        → r.last_day ≤ last_date → IsPolicy p → is_request request ≡ true
+        → IfAccepted (decision r p day who request) (IsNextEntry r) }
+{}

@@ -6,9 +6,6 @@ ghost use Rattle.reg_entry.specs.Objects.{HaveDistinctKeys, object_at, played, c
 
 /// The changes between two maps of objects, played on the first, give each key what the second has.
 pub fn changes_lead_to_objects()
-    ensures {
-        (before after : List Object) (k : Key) → HaveDistinctKeys after
-            → object_at (played before (changes_between before after)) k ≡ object_at after k
-    }
-{
-}
+    ensures { (before after : List Object) (k : Key) → HaveDistinctKeys after
+        → object_at (played before (changes_between before after)) k ≡ object_at after k }
+{}

@@ -1,4 +1,4 @@
-use Rattle.std.proofs.Common.{◌≡◌, ℕ, ◌<◌, ℤ, pos, FitsSigned, w8, ◌∙◌, false, true, refl, arith}
+use Rattle.std.proofs.Common.{◌≡◌, ℕ, ◌<◌, ℤ, pos, FitsSigned, w8, ◌∙◌, false, refl, arith}
 use Rattle.std.proofs.lemmas.Bool.{both_ways}
 use mir.Syntax.{w16}
 use mir.Val.{to_z, of_z}

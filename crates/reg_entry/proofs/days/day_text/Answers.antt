@@ -1,4 +1,4 @@
-use Rattle.std.proofs.Common.{◌≡◌, ℕ, FitsSigned, w64, ◌∙◌, ap, arith}
+use Rattle.std.proofs.Common.{◌≡◌, FitsSigned, w64, ◌∙◌, ap, arith}
 use Rattle.std.proofs.lemmas.Int.{to_z-of_z}
 use Rattle.jiff_core.proofs.SignedLemmas.{signed_arith}
 use Rattle.reg_entry.specs.Days.{date_of_day, date_text}
