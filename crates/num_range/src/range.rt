@@ -26,17 +26,6 @@ impl Model for Range {
     ghost inverse = { λ r. record { space = r.space; first = r.first; last = r.last } };
 }
 
-impl Default for Range {
-    /// A range of one number, for what is unused.
-    fn default() -> Range {
-        Range {
-            space: Space::Asn,
-            first: 0,
-            last: 0,
-        }
-    }
-}
-
 impl Range {
     /// The range from the first to the last number, or nothing where the first is above the last or the last above
     /// the space's greatest.

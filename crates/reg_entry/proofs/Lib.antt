@@ -1,5 +1,8 @@
 pub mod Padding
 mod Rows
+pub mod Calendar
+pub mod DayTexts
+mod RegisterRows
 pub mod Joining
 pub mod Laying
 pub mod Holding

@@ -3,7 +3,7 @@ use Rattle.std.specs.Prelude.{◌≡◌, ℕ, ◌+◌, ◌-◌, ◌^◌, ◌<◌
 use Rattle.std.specs.List.{flat_map}
 use Rattle.std.specs.Option.{option_map}
 use Rattle.num_range.specs.declared.space.Space.{Space}
-use Rattle.num_range.specs.declared.space.Space.TheVariants.{Asn, Ipv4, Ipv6}
+use Rattle.num_range.specs.declared.space.Space.TheVariants.{Ipv6}
 use Rattle.num_range.specs.Space.{top_of}
 use Rattle.num_range.specs.Range.{PlainRange, size_of}
 use Rattle.reg_entry.specs.declared.card.Card.{Card}

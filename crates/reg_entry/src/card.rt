@@ -2,10 +2,9 @@ ghost use Rattle.std.specs.Prelude.{◌≡◌};
 ghost use Rattle.reg_entry.specs.Card.{is_available, plain_card};
 
 /// What may be done with the numbers of a piece, and what was.
-#[derive(Clone, Copy, Debug, Default, PartialEq, Eq, PartialOrd, Ord, Hash)]
+#[derive(Clone, Copy, Debug, PartialEq, Eq, PartialOrd, Ord, Hash)]
 pub enum Status {
     /// In the pool, and free to be delegated.
-    #[default]
     Available,
     /// Kept back by the registry.
     Reserved,
@@ -27,7 +26,7 @@ impl Status {
 
 /// What the register knows of each number of a piece: its status, the number of its holder, and days counted from
 /// 1970-01-01, where 0 is no day.
-#[derive(Clone, Copy, Debug, Default, PartialEq, Eq, Hash)]
+#[derive(Clone, Copy, Debug, PartialEq, Eq, Hash)]
 pub struct Card {
     pub status: Status,
     pub holder: Option<u32>,

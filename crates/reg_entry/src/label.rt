@@ -12,7 +12,7 @@ use std::marker::Model;
 pub const LABEL_ROOM: usize = 96;
 
 /// A short list of bytes that is copied as a whole.
-#[derive(Clone, Copy)]
+#[derive(Clone, Copy, Debug)]
 pub struct Label {
     // The bytes past the length are 0, so that the list gives the fields back.
     array: [u8; LABEL_ROOM],

@@ -5,6 +5,7 @@ ghost use Rattle.num_range.specs.Range.{PlainRange, IsRange, size_of};
 ghost use Rattle.reg_entry.specs.declared.card.Card.{Card};
 ghost use Rattle.reg_entry.specs.declared.piece.Piece.{Piece};
 ghost use Rattle.reg_entry.specs.Pieces.{card_at, first_met, overlap, size_sum, laid, ArePieces, IsPoolRange, IsCard, IsLeastTaken};
+ghost use Rattle.reg_entry.specs.Days.{last_date, day_text};
 ghost use Rattle.reg_entry.specs.Blocks.{least_block, IsLeastBlock};
 
 /// The pieces of a space are pieces of it still once a card was painted over one of its ranges.
@@ -39,4 +40,9 @@ pub fn painting_counts_numbers()
     ensures repainted { (space : Space) (ps : List Piece) (r : PlainRange) (c : Card) (p : Piece) → ArePieces space ps → IsRange r
         → first_met ps r ≡ Some p → p.range.first ≤ r.first → r.last ≤ p.range.last
         → size_sum (laid ps r c) ≡ size_sum ps }
+{}
+
+/// No two days have one text, so that reading the text of a day gives the day.
+pub fn day_texts_differ()
+    ensures { (a b : ℕ) → a ≤ last_date → b ≤ last_date → day_text a ≡ day_text b → a ≡ b }
 {}

@@ -1,9 +1,19 @@
 use crate::Card;
-use num_range::Range;
+use num_range::{Range, Space};
 
 /// A range of numbers that have one card.
-#[derive(Clone, Copy, Debug, Default, PartialEq, Eq)]
+#[derive(Clone, Copy, Debug, PartialEq, Eq)]
 pub struct Piece {
     pub range: Range,
     pub card: Card,
+}
+
+/// AS number 0 with the plain card, to fill what has room for pieces.
+impl Default for Piece {
+    fn default() -> Piece {
+        Piece {
+            range: Range::between(Space::Asn, 0, 0),
+            card: Card::plain(),
+        }
+    }
 }

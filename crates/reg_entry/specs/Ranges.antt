@@ -1,0 +1,86 @@
+-- Ranges that carry a value, as a sorted list: sub-assignments and reverse entries are kept so.
+use Rattle.std.specs.Prelude.{◌≡◌, ℕ, Bool, true, not, ◌&&◌, ◌||◌, ◌==◌, nat_lt, nat_le, if◌then◌else◌, List, [], ◌∷◌, Option, filter, find}
+use Rattle.std.specs.Option.{option_map}
+use Rattle.num_range.specs.declared.space.Space.{Space}
+use Rattle.num_range.specs.declared.space.Space.TheVariants.{Asn, Ipv4, Ipv6}
+use Rattle.num_range.specs.Number.{PlainNumber}
+use Rattle.num_range.specs.Range.{PlainRange, IsRange}
+
+-- ---- ranges compared
+
+-- the place of a space in the order of the three
+abbrev pub space_rank : Space → ℕ
+space_rank Asn = 0
+space_rank Ipv4 = 1
+space_rank Ipv6 = 2
+
+abbrev pub same_space : Space → Space → Bool
+same_space a b = space_rank a == space_rank b
+
+abbrev pub same_range : PlainRange → PlainRange → Bool
+same_range r s = same_space r.space s.space && (r.first == s.first) && (r.last == s.last)
+
+-- by space, then by first, then by last number
+abbrev pub range_before : PlainRange → PlainRange → Bool
+range_before r s =
+    nat_lt (space_rank r.space) (space_rank s.space)
+    || (same_space r.space s.space && (nat_lt r.first s.first || ((r.first == s.first) && nat_lt r.last s.last)))
+
+-- the number is one of the range's
+abbrev pub range_holds : PlainRange → PlainNumber → Bool
+range_holds r n = same_space r.space n.space && nat_le r.first n.value && nat_le n.value r.last
+
+-- each number of the inner range is one of the outer's
+abbrev pub lies_inside : PlainRange → PlainRange → Bool
+lies_inside inner outer = same_space inner.space outer.space && nat_le outer.first inner.first && nat_le inner.last outer.last
+
+-- the ranges have a number in common
+abbrev pub ranges_meet : PlainRange → PlainRange → Bool
+ranges_meet r s = same_space r.space s.space && nat_le r.first s.last && nat_le s.first r.last
+
+-- the whole of the first range lies before the second
+abbrev pub IsBelow : PlainRange → PlainRange → Type 0
+IsBelow r s = (nat_lt (space_rank r.space) (space_rank s.space) || (same_space r.space s.space && nat_lt r.last s.first)) ≡ true
+
+-- ---- looked up
+
+-- the value of exactly this range
+abbrev pub value_of_range : {T : Type 0} → List (PlainRange × T) → PlainRange → Option T
+value_of_range rs r = option_map (λ p. p.1) (find (λ p. same_range p.0 r) rs)
+
+-- the first range that has a number in common with this one
+abbrev pub first_meeting : {T : Type 0} → List (PlainRange × T) → PlainRange → Option (PlainRange × T)
+first_meeting rs r = find (λ p. ranges_meet p.0 r) rs
+
+-- the first range that this one lies inside
+abbrev pub enclosing : {T : Type 0} → List (PlainRange × T) → PlainRange → Option (PlainRange × T)
+enclosing rs r = find (λ p. lies_inside r p.0) rs
+
+-- the ranges that lie inside this one
+abbrev pub ranges_inside : {T : Type 0} → List (PlainRange × T) → PlainRange → List (PlainRange × T)
+ranges_inside rs r = filter (λ p. lies_inside p.0 r) rs
+
+-- ---- changed
+
+-- the list with this value of the range, in its place
+abbrev pub with_range : {T : Type 0} → List (PlainRange × T) → PlainRange → T → List (PlainRange × T)
+with_range [] r x = (r, x) ∷ []
+with_range (p ∷ ps) r x =
+    if same_range p.0 r then (r, x) ∷ ps
+    else (if range_before r p.0 then (r, x) ∷ p ∷ ps else p ∷ with_range ps r x)
+
+-- the list without exactly this range
+abbrev pub without_range : {T : Type 0} → List (PlainRange × T) → PlainRange → List (PlainRange × T)
+without_range rs r = filter (λ p. not (same_range p.0 r)) rs
+
+-- the list without the ranges that lie inside this one
+abbrev pub without_inside : {T : Type 0} → List (PlainRange × T) → PlainRange → List (PlainRange × T)
+without_inside rs r = filter (λ p. not (lies_inside p.0 r)) rs
+
+-- ---- what such a list is
+
+-- the ranges are ranges of their spaces, rise, and have no number in common
+abbrev pub AreApart : {T : Type 0} → List (PlainRange × T) → Type 0
+AreApart [] = Unit {0}
+AreApart (p ∷ []) = IsRange p.0
+AreApart (p ∷ q ∷ ps) = IsRange p.0 × IsBelow p.0 q.0 × AreApart (q ∷ ps)

@@ -1,0 +1,56 @@
+-- Requests: what their words mean apart from any register.
+use Rattle.std.specs.Prelude.{ℕ, Bool, true, ◌&&◌, nat_le}
+use Rattle.num_range.specs.Number.{PlainNumber}
+use Rattle.num_range.specs.Range.{PlainRange}
+use Rattle.num_range.specs.declared.space.Space.{Space}
+use Rattle.num_range.specs.declared.space.Space.TheVariants.{Asn, Ipv4, Ipv6}
+use Rattle.num_range.specs.Space.{top_of}
+use Rattle.num_range.specs.Block.{block_size}
+use Rattle.reg_entry.specs.declared.card.Status.{Status}
+use Rattle.reg_entry.specs.declared.card.Status.TheVariants.{Allocated, Assigned}
+use Rattle.reg_entry.specs.declared.request.Request.{Request}
+use Rattle.reg_entry.specs.declared.request.Request.TheVariants.{Receive, AddHolder, EditHolder, Delegate, Reserve, Unreserve, SubAssign, SubReturn, Return, Release, Split, Join, Transfer, SetReverse, ClearReverse}
+use Rattle.reg_entry.specs.declared.request.Delegation.{Delegation}
+use Rattle.reg_entry.specs.declared.request.Delegation.TheVariants.{Allocate, Assign}
+
+-- the status of the piece that is delegated so
+abbrev pub status_of : Delegation → Status
+status_of Allocate = Allocated
+status_of Assign = Assigned
+
+-- how many numbers an amount asks for: a count of AS numbers, or a prefix length (RFC 4632 3.1)
+abbrev pub amount_size : Space → ℕ → ℕ
+amount_size Asn amount = amount
+amount_size Ipv4 amount = block_size Ipv4 amount
+amount_size Ipv6 amount = block_size Ipv6 amount
+
+-- the amounts that can be asked for: no more of IPv6 than all of global unicast, 2000::/3 (RFC 4291 2.4)
+abbrev pub has_size : Space → ℕ → Bool
+has_size Asn amount = nat_le 1 amount && nat_le amount 1024
+has_size Ipv4 amount = nat_le amount 32
+has_size Ipv6 amount = nat_le 3 amount && nat_le amount 128
+
+-- the numbers of a range are its space's
+abbrev pub is_range : PlainRange → Bool
+is_range r = nat_le r.first r.last && nat_le r.last (top_of r.space)
+
+abbrev pub is_number : PlainNumber → Bool
+is_number n = nat_le n.value (top_of n.space)
+
+-- the ranges and numbers that a request names are those of their spaces, as those of each request of the program are
+abbrev pub is_request : Request → Bool
+is_request (Receive range) = is_range range
+is_request (AddHolder holder) = true
+is_request (EditHolder holder) = true
+is_request (Delegate space amount status handle) = true
+is_request (Reserve range) = is_range range
+is_request (Unreserve range) = is_range range
+is_request (SubAssign range handle) = is_range range
+is_request (SubReturn range) = is_range range
+is_request (Return range handle) = is_range range
+is_request (Release range) = is_range range
+is_request (Split at) = is_number at
+is_request (Join at) = is_number at
+is_request (Transfer range from to) = is_range range
+is_request (SetReverse range servers) = is_range range
+is_request (ClearReverse range) = is_range range

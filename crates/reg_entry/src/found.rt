@@ -1,0 +1,15 @@
+use crate::{Piece, SubCard};
+use num_range::Range;
+
+/// A registration that was looked for.
+#[derive(Clone, Copy, Debug, PartialEq, Eq)]
+pub enum Found {
+    /// A delegated piece.
+    Piece(Piece),
+    /// A sub-assignment, with the range of the piece that it lies in.
+    Sub {
+        range: Range,
+        card: SubCard,
+        parent: Range,
+    },
+}

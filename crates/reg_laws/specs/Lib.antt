@@ -1,0 +1,2 @@
+pub mod Reshaping
+pub mod Missing

@@ -1,0 +1,17 @@
+//! What the decision accepts may come next.
+ghost use Rattle.std.specs.Prelude.{◌≡◌, ℕ, ◌≤◌, true, List};
+ghost use Rattle.reg_entry.specs.declared.request.Request.{Request};
+ghost use Rattle.reg_entry.specs.Request.{is_request};
+ghost use Rattle.reg_entry.specs.Policy.{PlainPolicy, IsPolicy};
+ghost use Rattle.reg_entry.specs.Partition.{IsPartition};
+ghost use Rattle.reg_entry.specs.Days.{last_date};
+ghost use Rattle.reg_entry.specs.Register.{Register};
+ghost use Rattle.reg_entry.specs.Decision.{decision, IfAccepted};
+ghost use Rattle.reg_entry.specs.Next.{IsNextEntry};
+
+/// Each entry that the decision gives may come next, whatever the policy says.
+pub fn accepted_may_come_next()
+    ensures { (r : Register) (p : PlainPolicy) (day : ℕ) (who : List ℕ) (request : Request) → IsPartition r.pool
+        → r.last_day ≤ last_date → IsPolicy p → is_request request ≡ true
+        → IfAccepted (decision r p day who request) (IsNextEntry r) }
+{}
