@@ -103,7 +103,10 @@ fn answers_scripts(rt: HostRuntime) -> Result<(), Fail> {
         for piece in [1usize, 7, 8192] {
             let (exit, written) = answer(&rt, script, piece)?;
             assert_eq!(rt; exit, Exit::Done);
-            assert!(rt; written.as_slice() == answers, "in pieces of {piece}: {written:?}");
+            assert!(rt;
+                written.as_slice() == answers,
+                "in pieces of {piece}: {written:?}"
+            );
         }
     }
     Ok(())
@@ -139,7 +142,10 @@ fn reads_lines_of_1024_bytes(rt: HostRuntime) -> Result<(), Fail> {
             script.extend_from_slice(end)?;
             let (exit, written) = answer(&rt, &script, 1000)?;
             assert_eq!(rt; exit, Exit::Done);
-            assert!(rt; written.as_slice() == answers, "of {len} bytes: {written:?}");
+            assert!(rt;
+                written.as_slice() == answers,
+                "of {len} bytes: {written:?}"
+            );
         }
     }
     Ok(())
@@ -196,7 +202,8 @@ fn has_room_for_262144_pieces(rt: HostRuntime) -> Result<(), Fail> {
     script.extend_from_slice(b"receive 10.0.0.1/32\nreceive 10.8.0.0/32\n")?;
     let (exit, written) = answer(&rt, &script, 8192)?;
     assert_eq!(rt; exit, Exit::Done);
-    let ending: &[u8] = b"\nok 262144 10.7.255.254 - 10.7.255.254\nrefused N30 RegisterFull 262145 262144\n\
+    let ending: &[u8] =
+        b"\nok 262144 10.7.255.254 - 10.7.255.254\nrefused N30 RegisterFull 262145 262144\n\
         ok 262145 10.0.0.1 - 10.0.0.1\nok 262146 10.8.0.0 - 10.8.0.0\n";
     assert!(rt; written.as_slice().ends_with(ending));
     Ok(())
