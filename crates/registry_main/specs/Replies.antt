@@ -2,8 +2,8 @@
 use Rattle.std.specs.Prelude.{ℕ, List, [], ◌∷◌, ◌++◌, Option, None, Some, codes}
 use Rattle.std.specs.Fmt.{decimal}
 use Rattle.num_range.specs.Range.{PlainRange}
-use Rattle.reg_entry.specs.declared.refusal.Refusal.{Refusal}
-use Rattle.reg_entry.specs.declared.refusal.Refusal.TheVariants.{Malformed, Overlap, NoBlock, RegisterFull}
+use Rattle.registry_main.specs.declared.refusal.Refusal.{Refusal}
+use Rattle.registry_main.specs.declared.refusal.Refusal.TheVariants.{Malformed, Overlap, NoBlock, RegisterFull}
 use Rattle.registry_main.specs.declared.reply.Reply.{Reply}
 use Rattle.registry_main.specs.declared.reply.Reply.TheVariants.{Accepted, Refused}
 use Rattle.registry_main.specs.Ipv4Text.{address_text}

@@ -7,8 +7,8 @@ use Rattle.num_range.specs.Block.{block_size, block_of}
 use Rattle.reg_entry.specs.declared.card.Card.{Card}
 use Rattle.reg_entry.specs.declared.card.Status.TheVariants.{Allocated}
 use Rattle.reg_entry.specs.declared.piece.Piece.{Piece}
-use Rattle.reg_entry.specs.declared.refusal.Refusal.{Refusal}
-use Rattle.reg_entry.specs.declared.refusal.Refusal.TheVariants as refusals
+use Rattle.registry_main.specs.declared.refusal.Refusal.{Refusal}
+use Rattle.registry_main.specs.declared.refusal.Refusal.TheVariants as refusals
 use Rattle.reg_entry.specs.Card.{plain_card}
 use Rattle.reg_entry.specs.Pieces.{laid, overlap}
 use Rattle.reg_entry.specs.Blocks.{least_block}

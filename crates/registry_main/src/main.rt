@@ -9,6 +9,7 @@ mod laws;
 mod least_block;
 mod line;
 mod line_buffer;
+mod refusal;
 mod reply;
 mod run;
 mod session;

@@ -1,6 +1,6 @@
 //! The line that answers a request.
+use crate::refusal::Refusal;
 use num_range::Range;
-use reg_entry::Refusal;
 use std::fmt;
 
 /// What a request is answered.

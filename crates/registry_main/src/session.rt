@@ -12,10 +12,11 @@ ghost use Rattle.registry_main.specs.Session.{empty_register, received, delegate
 use crate::holders::Holders;
 use crate::least_block::least_block;
 use crate::line::{Line, read_line};
+use crate::refusal::Refusal;
 use crate::reply::Reply;
 use num_range::{Range, Space};
 use piece_book::PieceBook;
-use reg_entry::{Card, Handle, Refusal, Status};
+use reg_entry::{Card, Handle, Status};
 use std::alloc::{AllocError, Global};
 use std::marker::Model;
 
