@@ -14,7 +14,8 @@ use Rattle.reg_entry.specs.Card.{is_available}
 use Rattle.reg_entry.specs.Pieces.{piece_at, can_join, joined_pair, RisesFrom, IsSettled, IsSettledAfter, AllPiecesOf, IsPieceOf, ArePieces}
 use Rattle.reg_entry.proofs.Joining.{joined_pair_is_piece}
 use Rattle.piece_book.specs.Seams.{ended_below}
-use Rattle.piece_book.specs.Cutting.{parts_at, split_at_number, joined_at_after, joined_at, IsSplitPlace, IsJoinPlace}
+use Rattle.reg_entry.specs.Reshaping.{split_piece, split_at_number, joined_at_after, joined_at}
+use Rattle.piece_book.specs.Cutting.{IsSplitPlace, IsJoinPlace}
 use Rattle.piece_book.specs.Places.{IsSplitIndex, IsJoinIndex}
 use Rattle.piece_book.specs.Touched.{IsTouched}
 use Rattle.piece_book.proofs.Rising.{some_piece, ordered_at, lies_above, none_between, some_between, past_between}
@@ -60,7 +61,7 @@ round ps i p l here =
 
 -- ---- parting a piece
 
-nothing_parted : (low : ℕ) (ps : List Piece) (at : ℕ) → RisesFrom low ps → at ≤ low → flat_map (parts_at at) ps ≡ ps
+nothing_parted : (low : ℕ) (ps : List Piece) (at : ℕ) → RisesFrom low ps → at ≤ low → flat_map (split_piece at) ps ≡ ps
 nothing_parted low [] at h l = refl
 nothing_parted low (p ∷ ps) at h l =
     let t : nat_lt p.range.first at ≡ false = le-ltb p.range.first at (omega (arith, h.0)) in

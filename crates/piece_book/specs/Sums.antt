@@ -1,20 +1,12 @@
 -- How many numbers have a status.
-use Rattle.std.specs.Prelude.{ℕ, ◌+◌, ◌==◌, Bool, if◌then◌else◌, List, [], ◌∷◌}
+use Rattle.std.specs.Prelude.{ℕ, ◌+◌, Bool, if◌then◌else◌, List, [], ◌∷◌}
 use Rattle.num_range.specs.Range.{size_of}
 use Rattle.reg_entry.specs.declared.card.Status.{Status}
-use Rattle.reg_entry.specs.declared.card.Status.TheVariants.{Available, Reserved, Quarantine, Allocated, Assigned}
 use Rattle.reg_entry.specs.declared.piece.Piece.{Piece}
-
--- the place of the status among the five
-abbrev pub status_rank : Status → ℕ
-status_rank Available = 0
-status_rank Reserved = 1
-status_rank Quarantine = 2
-status_rank Allocated = 3
-status_rank Assigned = 4
+use Rattle.reg_entry.specs.Card.{same_status}
 
 abbrev pub has_status : Status → Piece → Bool
-has_status s p = status_rank p.card.status == status_rank s
+has_status s p = same_status p.card.status s
 
 -- the sizes of the pieces of the status, added up
 abbrev pub status_sum : List Piece → Status → ℕ

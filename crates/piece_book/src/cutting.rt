@@ -1,15 +1,15 @@
 //! Parting a piece in two, and making one of two.
 ghost use Rattle.std.specs.Prelude.{◌≡◌, ◌+◌, ◌<◌, ◌≤◌, length, vec_len, vec_capacity};
 ghost use Rattle.reg_entry.specs.Pieces.{ArePieces, RisesFrom};
-ghost use Rattle.piece_book.specs.Cutting.{IsJoinPlace, IsSplitPlace, joined_at, split_at_number};
+ghost use Rattle.piece_book.specs.Cutting.{IsJoinPlace, IsSplitPlace};
+ghost use Rattle.reg_entry.specs.Reshaping.{joined_at, split_at_number};
 ghost use Rattle.piece_book.specs.Places.{IsJoinIndex, IsSplitIndex};
 ghost use Rattle.piece_book.specs.Touched.{IsTouched};
 
-use crate::Touched;
 use crate::laying::{few, replace_run};
 use crate::search::ended_below;
 use num_range::{Range, Space};
-use reg_entry::Piece;
+use reg_entry::{Piece, Touched};
 
 /// Where the piece stands that is to be parted.
 fn split_index(pieces: &[Piece], at: u128) -> usize

@@ -8,12 +8,12 @@ ghost use Rattle.reg_entry.specs.declared.piece.Piece.{Piece};
 ghost use Rattle.piece_book.specs.Touched.{IsTouched};
 ghost use Rattle.piece_book.specs.Seams.{joins_up, joins_down, JoinsBelow, JoinsAbove};
 
-use crate::Touched;
+use crate::touched::nothing_touched;
 use crate::search::{begun_below, ended_by};
 use arrayvec::ArrayVec;
 use num_range::Range;
 use reg_entry::laws::painting_keeps_pieces;
-use reg_entry::{Card, Piece, Status};
+use reg_entry::{Card, Piece, Status, Touched};
 
 /// What stands below the new piece, and what it joins there.
 #[derive(Drop)]
@@ -262,7 +262,7 @@ pub(crate) fn lay(pieces: &mut Vec<Piece>, range: &Range, card: &Card) -> Touche
     let after = lined_up(&below.rest, &new, &above.rest);
     let run = &pieces[from..to];
     if is_one_for_one(run, &after) {
-        return Touched::nothing();
+        return nothing_touched();
     }
     let before = few(run);
     replace_run(pieces, from, to, &after);

@@ -12,5 +12,5 @@ mod touched;
 mod walk;
 
 pub use book::PieceBook;
-pub use touched::Touched;
+pub use reg_entry::Touched;
 pub use walk::PieceWalk;

@@ -2,7 +2,7 @@ use Rattle.std.proofs.Common.{◌≡◌, ◌≤◌, ◌<◌, ◌+◌, ◌-◌, �
 use Rattle.num_range.specs.Range.{PlainRange}
 use Rattle.reg_entry.specs.declared.piece.Piece.{Piece}
 use Rattle.piece_book.specs.Places.{IsJoinIndex}
-use Rattle.piece_book.specs.Cutting.{joined_at}
+use Rattle.reg_entry.specs.Reshaping.{joined_at}
 use Rattle.piece_book.proofs.Touching.{run}
 use Rattle.piece_book.proofs.Cuts.{IsDone, join_done, pair_ordered}
 use Rattle.piece_book.proofs.cutting.join.Goals as goal

@@ -2,7 +2,7 @@ use Rattle.std.proofs.Common.{◌≡◌, ◌≤◌, ◌<◌, ◌+◌, ◌-◌, �
 use Rattle.num_range.specs.Range.{PlainRange}
 use Rattle.reg_entry.specs.declared.piece.Piece.{Piece}
 use Rattle.piece_book.specs.Places.{IsSplitIndex}
-use Rattle.piece_book.specs.Cutting.{split_at_number}
+use Rattle.reg_entry.specs.Reshaping.{split_at_number}
 use Rattle.piece_book.proofs.Touching.{run}
 use Rattle.piece_book.proofs.Cuts.{IsDone, split_done, piece_within}
 use Rattle.piece_book.proofs.cutting.split.Goals as goal
