@@ -9,11 +9,17 @@ use reg_entry::{Card, Piece, Status};
 use std::alloc::{AllocError, Global};
 use std::test::Fail;
 
-const DOCUMENTATION: u128 = 0xc000_0200; // 192.0.2.0, RFC 5737
+const GLOBAL_UNICAST: u128 = 0x2000_0000_0000_0000_0000_0000_0000_0000; // RFC 4291 2.4
 
-const GLOBAL_UNICAST: u128 = 1 << 125; // 2000::, RFC 4291 2.4
+const DOCUMENTATION6: u128 = 0x2001_0db8_0000_0000_0000_0000_0000_0000; // RFC 3849
 
-const LAST_UNICAST: u128 = (1 << 126) - 1;
+const LAST_64: u128 = 0x3fff_ffff_ffff_ffff_0000_0000_0000_0000;
+
+const BEFORE_LAST: u128 = 0x3fff_ffff_ffff_ffff_ffff_ffff_ffff_fffe;
+
+const LAST_UNICAST: u128 = 0x3fff_ffff_ffff_ffff_ffff_ffff_ffff_ffff;
+
+const PAST_UNICAST: u128 = 0x4000_0000_0000_0000_0000_0000_0000_0000;
 
 fn is_pool_range(range: &Range) -> bool
     ensures { IsTrue result → IsPoolRange range.now }
@@ -76,12 +82,11 @@ fn made_one(book: &mut PieceBook, at: Number) -> Option<Touched> {
     Some(book.join(at))
 }
 
-fn ends(alloc: Global, pieces: &[Piece]) -> Result<Vec<(u128, u128)>, AllocError> {
-    let mut ends = Vec::new(alloc);
-    for piece in pieces {
-        ends.push((piece.range.first(), piece.range.last()))?;
-    }
-    Ok(ends)
+fn ipv4_piece(first: u128, last: u128, status: Status) -> Option<Piece> {
+    Some(Piece {
+        range: Range::new(Space::Ipv4, first, last)?,
+        card: card_of(status),
+    })
 }
 
 /// The first available piece, as a caller's loop finds it.
@@ -96,15 +101,13 @@ fn first_available(book: &PieceBook, space: Space) -> Option<Piece>
     None
 }
 
-/// The pieces of a space as their ends and statuses, in the order in which the walk has them.
-fn walked(
-    alloc: Global,
-    book: &PieceBook,
-    space: Space,
-) -> Result<Vec<(u128, u128, Status)>, AllocError> {
+/// The pieces of the three spaces as their ends and statuses, in the order in which the walks have them.
+fn walked(alloc: Global, book: &PieceBook) -> Result<Vec<(u128, u128, Status)>, AllocError> {
     let mut all = Vec::new(alloc);
-    for piece in book.walk(space) {
-        all.push((piece.range.first(), piece.range.last(), piece.card.status))?;
+    for space in [Space::Asn, Space::Ipv4, Space::Ipv6] {
+        for piece in book.walk(space) {
+            all.push((piece.range.first(), piece.range.last(), piece.card.status))?;
+        }
     }
     Ok(all)
 }
@@ -114,32 +117,34 @@ fn pieces_of_three_spaces(rt: HostRuntime) -> Result<(), Fail> {
     use Space::{Asn, Ipv4, Ipv6};
     use Status::{Allocated, Assigned, Available, Reserved};
 
-    let v6 = 0x2001_0db8 << 96; // 2001:db8::, RFC 3849
-    let v6_last = LAST_UNICAST - u64::MAX as u128; // the last /64
-    let v4 = DOCUMENTATION;
-    let v4_top = u32::MAX as u128;
     // The count of pieces after, how many went or changed, and how many came.
     let rows = [
-        (Ipv4, v4, v4 + 255, Available, Some((1, 0, 1))),
+        (Ipv4, 0xc000_0200, 0xc000_02ff, Available, Some((1, 0, 1))),
         // The block behind it joins it, and one that only lies near doesn't.
-        (Ipv4, v4 + 256, v4 + 511, Available, Some((1, 1, 1))),
-        (Ipv4, v4 + 513, v4 + 513, Available, Some((2, 0, 1))),
+        (Ipv4, 0xc000_0300, 0xc000_03ff, Available, Some((1, 1, 1))),
+        (Ipv4, 0xc000_0401, 0xc000_0401, Available, Some((2, 0, 1))),
         // A delegate inside cuts the piece on both sides, and one at its low end on one side.
-        (Ipv4, v4 + 64, v4 + 127, Allocated, Some((4, 1, 3))),
-        (Ipv4, v4, v4 + 31, Assigned, Some((5, 1, 2))),
+        (Ipv4, 0xc000_0240, 0xc000_027f, Allocated, Some((4, 1, 3))),
+        (Ipv4, 0xc000_0200, 0xc000_021f, Assigned, Some((5, 1, 2))),
         // Over two pieces nothing is laid.
-        (Ipv4, v4, v4 + 32, Reserved, None),
+        (Ipv4, 0xc000_0200, 0xc000_0220, Reserved, None),
         // What comes back joins what is available on both sides.
-        (Ipv4, v4 + 64, v4 + 127, Available, Some((3, 3, 1))),
-        (Ipv4, v4 + 512, v4 + 512, Available, Some((2, 2, 1))),
-        (Ipv4, v4_top, v4_top, Available, Some((3, 0, 1))),
+        (Ipv4, 0xc000_0240, 0xc000_027f, Available, Some((3, 3, 1))),
+        (Ipv4, 0xc000_0400, 0xc000_0400, Available, Some((2, 2, 1))),
+        (Ipv4, 0xffff_ffff, 0xffff_ffff, Available, Some((3, 0, 1))),
         // Touching pieces that aren't both available stay two (RFC 5398).
         (Asn, 64496, 64511, Reserved, Some((4, 0, 1))),
         (Asn, 64512, 64512, Reserved, Some((5, 0, 1))),
         (Asn, 64495, 64495, Available, Some((6, 0, 1))),
-        (Asn, v4_top, v4_top, Available, Some((7, 0, 1))),
-        (Ipv6, v6, v6 + u64::MAX as u128, Available, Some((8, 0, 1))),
-        (Ipv6, v6_last, LAST_UNICAST, Available, Some((9, 0, 1))),
+        (Asn, 0xffff_ffff, 0xffff_ffff, Available, Some((7, 0, 1))),
+        (
+            Ipv6,
+            DOCUMENTATION6,
+            DOCUMENTATION6,
+            Available,
+            Some((8, 0, 1)),
+        ),
+        (Ipv6, LAST_64, LAST_UNICAST, Available, Some((9, 0, 1))),
         (
             Ipv6,
             LAST_UNICAST,
@@ -147,7 +152,7 @@ fn pieces_of_three_spaces(rt: HostRuntime) -> Result<(), Fail> {
             Allocated,
             Some((10, 1, 2)),
         ),
-        (Ipv6, LAST_UNICAST + 1, LAST_UNICAST + 1, Available, None),
+        (Ipv6, PAST_UNICAST, PAST_UNICAST, Available, None),
         // A piece that gets the card that it has is as it was.
         (Asn, 64512, 64512, Reserved, Some((10, 0, 0))),
     ];
@@ -171,32 +176,25 @@ fn pieces_of_three_spaces(rt: HostRuntime) -> Result<(), Fail> {
     assert_eq!(rt; book.pieces_after(&more, Reserved), 11);
     assert_eq!(rt; laid(&mut book, &more, Reserved), None);
 
-    let alloc = rt.alloc();
-    let ipv4 = [
-        (DOCUMENTATION, DOCUMENTATION + 31, Assigned),
-        (DOCUMENTATION + 32, DOCUMENTATION + 513, Available),
-        (u32::MAX as u128, u32::MAX as u128, Available),
-    ];
-    assert_eq!(rt; walked(alloc, &book, Ipv4)?.as_slice(), ipv4.as_slice());
-    let asn = [
+    let pieces = [
         (64495, 64495, Available),
         (64496, 64511, Reserved),
         (64512, 64512, Reserved),
-        (u32::MAX as u128, u32::MAX as u128, Available),
-    ];
-    assert_eq!(rt; walked(alloc, &book, Asn)?.as_slice(), asn.as_slice());
-    let ipv6 = [
-        (v6, v6 + u64::MAX as u128, Available),
-        (v6_last, LAST_UNICAST - 1, Available),
+        (0xffff_ffff, 0xffff_ffff, Available),
+        (0xc000_0200, 0xc000_021f, Assigned),
+        (0xc000_0220, 0xc000_0401, Available),
+        (0xffff_ffff, 0xffff_ffff, Available),
+        (DOCUMENTATION6, DOCUMENTATION6, Available),
+        (LAST_64, BEFORE_LAST, Available),
         (LAST_UNICAST, LAST_UNICAST, Allocated),
     ];
-    assert_eq!(rt; walked(alloc, &book, Ipv6)?.as_slice(), ipv6.as_slice());
+    assert_eq!(rt; walked(rt.alloc(), &book)?.as_slice(), pieces.as_slice());
     Ok(())
 }
 
 #[test]
 fn the_whole_of_ipv4(rt: HostRuntime) -> Result<(), Fail> {
-    let top = u32::MAX as u128;
+    let top = 0xffff_ffff;
     let mut book = PieceBook::with_room(rt.alloc(), 3)?;
     let whole = Range::between(Space::Ipv4, 0, top);
     assert_eq!(rt; laid(&mut book, &whole, Status::Available), Some((1, 0, 1)));
@@ -229,41 +227,30 @@ fn the_whole_of_ipv4(rt: HostRuntime) -> Result<(), Fail> {
 
 #[test]
 fn a_piece_is_parted_and_made_one_again(rt: HostRuntime) -> Result<(), Fail> {
-    let alloc = rt.alloc();
-    let v4 = DOCUMENTATION;
-    let mut book = PieceBook::with_room(alloc, 4)?;
-    let held = Range::between(Space::Ipv4, v4, v4 + 127);
-    assert_eq!(rt; laid(&mut book, &held, Status::Allocated), Some((1, 0, 1)));
-    let free = Range::between(Space::Ipv4, v4 + 128, v4 + 255);
-    assert_eq!(rt; laid(&mut book, &free, Status::Available), Some((2, 0, 1)));
+    let mut book = PieceBook::with_room(rt.alloc(), 4)?;
+    let whole = [ipv4_piece(0xc000_0200, 0xc000_027f, Status::Allocated).ok_or("a piece")?];
+    let halves = [
+        ipv4_piece(0xc000_0200, 0xc000_023f, Status::Allocated).ok_or("a piece")?,
+        ipv4_piece(0xc000_0240, 0xc000_027f, Status::Allocated).ok_or("a piece")?,
+    ];
+    let behind = Range::between(Space::Ipv4, 0xc000_0280, 0xc000_02ff);
+    laid(&mut book, &whole[0].range, Status::Allocated);
+    laid(&mut book, &behind, Status::Available);
 
-    // Not before its first number, and not where it is available.
-    assert_eq!(rt;
-        parted(&mut book, Number::of(Space::Ipv4, v4)).is_none(),
-        true
-    );
-    assert_eq!(rt;
-        parted(&mut book, Number::of(Space::Ipv4, v4 + 192)).is_none(),
-        true
-    );
+    // Not before its first number, not where it is available, and not with a piece of another card.
+    for value in [0xc000_0200, 0xc000_02c0] {
+        assert!(rt; parted(&mut book, Number::of(Space::Ipv4, value)).is_none());
+    }
+    assert!(rt; made_one(&mut book, Number::of(Space::Ipv4, 0xc000_0280)).is_none());
 
-    let middle = Number::of(Space::Ipv4, v4 + 64);
-    let whole = [(v4, v4 + 127)];
-    let halves = [(v4, v4 + 63), (v4 + 64, v4 + 127)];
+    let middle = Number::of(Space::Ipv4, 0xc000_0240);
     let split = parted(&mut book, middle).ok_or("a split")?;
-    assert_eq!(rt; ends(alloc, &split.before)?.as_slice(), whole.as_slice());
-    assert_eq!(rt; ends(alloc, &split.after)?.as_slice(), halves.as_slice());
-    assert_eq!(rt; book.pieces(), 3);
+    assert_eq!(rt; split.before.as_slice(), whole.as_slice());
+    assert_eq!(rt; split.after.as_slice(), halves.as_slice());
     assert_eq!(rt; book.sum(Space::Ipv4, Status::Allocated), 128);
-
-    // Not with a piece of another card.
-    assert_eq!(rt;
-        made_one(&mut book, Number::of(Space::Ipv4, v4 + 128)).is_none(),
-        true
-    );
     let joined = made_one(&mut book, middle).ok_or("a join")?;
-    assert_eq!(rt; ends(alloc, &joined.before)?.as_slice(), halves.as_slice());
-    assert_eq!(rt; ends(alloc, &joined.after)?.as_slice(), whole.as_slice());
+    assert_eq!(rt; joined.before.as_slice(), halves.as_slice());
+    assert_eq!(rt; joined.after.as_slice(), whole.as_slice());
     assert_eq!(rt; book.pieces(), 2);
     Ok(())
 }
