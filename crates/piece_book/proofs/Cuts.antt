@@ -1,11 +1,10 @@
 -- Parting a piece and making one of two, at the place in the list where it happens.
-use Rattle.std.proofs.Common.{◌≡◌, ℕ, ◌+◌, ◌-◌, ◌<◌, ◌≤◌, suc, zero, Bool, true, false, ◌&&◌, ◌==◌, nat_lt, nat_le, List, [], ◌∷◌, ◌++◌, length, get_or, take, drop, Option, None, Some, MatchOption, Contains, find, refl, sym, ◌∙◌, ap, subst, inl, inr, arith, eq-eqb, append_assoc}
-use Rattle.std.proofs.lemmas.Bool.{cases_Bool, cases_lt, ltb-true, leb-true, lt-ltb, le-ltb, le-leb, lt-leb}
+use Rattle.std.proofs.Common.{◌≡◌, ℕ, ◌+◌, ◌-◌, ◌<◌, ◌≤◌, Bool, true, false, ◌&&◌, ◌==◌, nat_lt, nat_le, List, [], ◌∷◌, ◌++◌, length, get_or, take, drop, Option, None, Some, MatchOption, refl, sym, ◌∙◌, ap, subst, inl, inr, arith, eq-eqb, append_assoc}
+use Rattle.std.proofs.lemmas.Bool.{cases_Bool, cases_lt, lt-ltb, le-ltb, le-leb, lt-leb}
 use Rattle.std.proofs.lemmas.Bool.Decides.{nat_tests}
 use Rattle.std.proofs.lemmas.List.{drop_more, get_or_default, take-append-drop}
 use Rattle.std.specs.List.{flat_map}
 use Rattle.num_range.specs.declared.space.Space.{Space}
-use Rattle.num_range.specs.declared.space.Space.TheVariants.{Ipv6}
 use Rattle.num_range.specs.Space.{top_of}
 use Rattle.num_range.specs.Range.{PlainRange}
 use Rattle.reg_entry.specs.declared.card.Card.{Card}
@@ -14,7 +13,7 @@ use Rattle.reg_entry.specs.Card.{is_available}
 use Rattle.reg_entry.specs.Pieces.{piece_at, can_join, joined_pair, RisesFrom, IsSettled, IsSettledAfter, AllPiecesOf, IsPieceOf, ArePieces}
 use Rattle.reg_entry.proofs.Joining.{joined_pair_is_piece}
 use Rattle.piece_book.specs.Seams.{ended_below}
-use Rattle.reg_entry.specs.Reshaping.{split_piece, split_at_number, joined_at_after, joined_at}
+use Rattle.reg_entry.specs.Reshaping.{split_piece, split_at_number, joined_at}
 use Rattle.piece_book.specs.Cutting.{IsSplitPlace, IsJoinPlace}
 use Rattle.piece_book.specs.Places.{IsSplitIndex, IsJoinIndex}
 use Rattle.piece_book.specs.Touched.{IsTouched}

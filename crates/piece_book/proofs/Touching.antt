@@ -1,6 +1,6 @@
 -- What laying a card touches: only a piece that is painted with its own card stands in the list before and after.
-use Rattle.std.proofs.Common.{◌≡◌, ℕ, ◌+◌, ◌-◌, ◌<◌, ◌≤◌, suc, zero, min, Bool, true, false, nat_lt, nat_le, List, [], ◌∷◌, ◌++◌, length, get_or, take, drop, Option, None, Some, MatchOption, Contains, option_to_list, unwrap_or, ◌⊎◌, inl, inr, find, refl, sym, ◌∙◌, ap, subst, arith, append_assoc, length-take, length-drop}
-use Rattle.std.proofs.lemmas.Bool.{cases_lt, ltb-true, leb-true}
+use Rattle.std.proofs.Common.{◌≡◌, ℕ, ◌+◌, ◌-◌, ◌<◌, ◌≤◌, suc, zero, nat_le, List, [], ◌∷◌, ◌++◌, length, get_or, take, drop, Option, None, Some, MatchOption, Contains, option_to_list, unwrap_or, ◌⊎◌, inl, inr, refl, sym, ◌∙◌, ap, subst, arith, append_assoc, length-take, length-drop}
+use Rattle.std.proofs.lemmas.Bool.{cases_lt, leb-true}
 use Rattle.std.proofs.lemmas.List.{get_or-take, get_or-drop, take-append-drop, drop-drop, append-nil, get_or_default, drop_more}
 use Rattle.std.proofs.lemmas.List.Elements.{Contains-append_cases}
 use Rattle.std.proofs.lemmas.List.Sums.{prefix_len_passes}
@@ -11,10 +11,10 @@ use Rattle.reg_entry.specs.declared.piece.Piece.{Piece}
 use Rattle.reg_entry.specs.Pieces.{first_met, laid, RisesFrom, IsInOnePieceOrNone}
 use Rattle.piece_book.specs.Seams.{ended_below, ended_by, JoinsBelow, JoinsAbove}
 use Rattle.piece_book.specs.Touched.{IsTouched}
-use Rattle.piece_book.proofs.Rising.{ordered_at, lies_above, some_between, firsts_rise, lasts_rise}
+use Rattle.piece_book.proofs.Rising.{ordered_at, lies_above, some_between, firsts_rise}
 use Rattle.piece_book.proofs.Below.{ended_le_at, ended_over}
 use Rattle.piece_book.proofs.Above.{first_over}
-use Rattle.piece_book.proofs.Laid.{laid_between, ended_below_le_by}
+use Rattle.piece_book.proofs.Laid.{laid_between}
 
 -- the new piece, from its first to its last number
 abbrev pub new_piece : PlainRange → ℕ → ℕ → Option Card → Card → Piece

@@ -9,11 +9,11 @@ ghost use Rattle.piece_book.specs.Sums.{status_sum};
 ghost use Rattle.piece_book.specs.Touched.{IsTouched};
 ghost use Rattle.reg_entry.specs.Partition.{empty_partition, pieces_in, with_pieces, piece_count, IsPartition};
 
+use crate::PieceWalk;
 use crate::cutting::{join, split};
 use crate::laying::{count_after, lay};
 use crate::search::first_between;
 use crate::sums::status_sum;
-use crate::PieceWalk;
 use num_range::{Number, Range, Space};
 use reg_entry::{Card, Piece, Status, Touched};
 use std::alloc::{AllocError, Global};

@@ -8,8 +8,8 @@ ghost use Rattle.reg_entry.specs.declared.piece.Piece.{Piece};
 ghost use Rattle.piece_book.specs.Touched.{IsTouched};
 ghost use Rattle.piece_book.specs.Seams.{joins_up, joins_down, JoinsBelow, JoinsAbove};
 
-use crate::touched::nothing_touched;
 use crate::search::{begun_below, ended_by};
+use crate::touched::nothing_touched;
 use arrayvec::ArrayVec;
 use num_range::Range;
 use reg_entry::laws::painting_keeps_pieces;

@@ -1,4 +1,4 @@
-use Rattle.std.proofs.Common.{◌≡◌, ◌≤◌, ◌<◌, ◌+◌, ◌-◌, ◌++◌, ℕ, List, take, drop, refl, sym, ◌∙◌, ap, subst, arith}
+use Rattle.std.proofs.Common.{◌≤◌, ◌+◌, ◌-◌, ◌++◌, ℕ, List, take, drop, sym, ◌∙◌, ap, subst, arith}
 use Rattle.num_range.specs.Range.{PlainRange}
 use Rattle.reg_entry.specs.declared.piece.Piece.{Piece}
 use Rattle.piece_book.specs.Places.{IsSplitIndex}

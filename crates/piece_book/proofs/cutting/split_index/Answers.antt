@@ -1,4 +1,3 @@
-use Rattle.std.proofs.Common.{arith}
 use Rattle.piece_book.proofs.Cuts.{splits_here}
 use Rattle.piece_book.proofs.cutting.split_index.Goals as goal
 
