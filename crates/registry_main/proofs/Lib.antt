@@ -1,6 +1,7 @@
 pub mod FirstLine
 pub mod FirstWord
 pub mod FoundBlock
+pub mod Ipv4Spelling
 pub mod Numbering
 pub mod OneWord
 pub mod Parted

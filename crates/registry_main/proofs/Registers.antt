@@ -1,15 +1,12 @@
 -- The pieces of every register that a script builds are pieces of IPv4.
-use Rattle.std.proofs.Common.{◌≡◌, ℕ, ◌+◌, ◌-◌, ◌*◌, ◌%◌, ◌^◌, ◌<◌, ◌≤◌, Bool, true, false, cond, List, [], ◌∷◌, length, Option, None, Some, refl, sym, ◌∙◌, ap, subst, arith, inl, inr}
-use Rattle.std.specs.Prelude.{◌==◌, ◌&&◌, nat_le, nat_lt, codes}
+use Rattle.std.proofs.Common.{◌≡◌, ℕ, ◌-◌, ◌<◌, Bool, true, false, cond, List, [], ◌∷◌, length, Option, None, Some, refl, sym, ◌∙◌, arith, inl, inr}
+use Rattle.std.specs.Prelude.{◌&&◌, nat_lt, codes}
 use Rattle.std.specs.Str.{bytes_eq}
-use Rattle.std.specs.Str.Lines.{lines}
-use Rattle.std.proofs.lemmas.Bool.{leb-true, eqb-true}
 use Rattle.num_range.specs.declared.space.Space.TheVariants.{Ipv4, Ipv6}
 use Rattle.num_range.specs.Range.{PlainRange, IsRange}
 use Rattle.num_range.specs.Block.{block_size, block_of}
-use Rattle.num_range.proofs.BlockEnds.{block_ends}
+use Rattle.addr_text.proofs.Valid.{range_valid}
 use Rattle.reg_entry.specs.declared.card.Card.{Card}
-use Rattle.reg_entry.specs.declared.piece.Piece.{Piece}
 use Rattle.reg_entry.specs.Card.{plain_card}
 use Rattle.reg_entry.specs.Pieces.{laid, overlap, ArePieces, IsCard, IsPoolRange, IsLeastTaken}
 use Rattle.reg_entry.specs.Blocks.{least_block, IsLeastBlock}
@@ -20,65 +17,24 @@ use Rattle.reg_entry.proofs.LeastBlock.{least_block_is_least}
 use Rattle.reg_entry.proofs.Overlaps.{overlap_is_least}
 use Rattle.registry_main.specs.declared.line.Line.{Line}
 use Rattle.registry_main.specs.declared.line.Line.TheVariants.{Nothing, Malformed, Receive, Delegate}
-use Rattle.registry_main.specs.Words.{◌>>=◌, parted_at, words_of}
-use Rattle.registry_main.specs.Ipv4Text.{number_up_to, small_number, address_of, block_at}
+use Rattle.registry_main.specs.Words.{words_of}
+use Rattle.registry_main.specs.Ipv4Text.{block_at}
 use Rattle.registry_main.specs.Line.{line_of, line_of_words, receive_line, delegate_line, amount_of, is_comment, received, delegated}
 use Rattle.registry_main.specs.Session as session
 use Rattle.registry_main.specs.Session.{Register, empty_register, answered, step_of, painted, register_after, room}
 use Rattle.registry_main.proofs.FoundBlock.{found_within}
+use Rattle.registry_main.proofs.Ipv4Spelling.{block_is_spelled}
 
 -- ---- the ranges that are read
-
-bind_some : {A B : Type 0} (o : Option A) (f : A → Option B) (y : B) → (o >>= f) ≡ Some y → (x : A) × (o ≡ Some x) × (f x ≡ Some y)
-bind_some None f y e = cc
-bind_some (Some x) f y e = (x, refl, e)
-
-chosen : {A : Type 0} (b : Bool) (x y : A) → cond b (Some x) None ≡ Some y → (b ≡ true) × (x ≡ y)
-chosen true x y e = (refl, cc)
-chosen false x y e = cc
-
-number_within : (most : ℕ) (text : List ℕ) (n : ℕ) → number_up_to most text ≡ Some n → n ≤ most
-number_within most text n e =
-    let found = bind_some (small_number text) (λ m. cond (nat_le m most) (Some m) None) n e in
-    let test = chosen (nat_le found.0 most) found.0 n found.2 in
-    subst (λ m. m ≤ most) test.1 (leb-true found.0 most test.0)
-
-abbrev value_of : Option ℕ → ℕ
-value_of None = 0
-value_of (Some v) = v
-
-address_below : (text : List ℕ) (v : ℕ) → address_of text ≡ Some v → v ≤ 2 ^ 32 - 1
-unfolding address_of
-address_below text v e =
-    let one = bind_some (parted_at 46 text) _ v e in
-    let a = bind_some (number_up_to 255 one.0.0) _ v one.2 in
-    let two = bind_some (parted_at 46 one.0.1) _ v a.2 in
-    let b = bind_some (number_up_to 255 two.0.0) _ v two.2 in
-    let three = bind_some (parted_at 46 two.0.1) _ v b.2 in
-    let c = bind_some (number_up_to 255 three.0.0) _ v three.2 in
-    let d = bind_some (number_up_to 255 three.0.1) _ v c.2 in
-    let value : ((a.0 * 256 + b.0) * 256 + c.0) * 256 + d.0 ≡ v = ap value_of d.2 in
-    let p = number_within 255 one.0.0 a.0 a.1 in
-    let q = number_within 255 two.0.0 b.0 b.1 in
-    let r = number_within 255 three.0.0 c.0 c.1 in
-    let s = number_within 255 three.0.1 d.0 d.1 in
-    omega arith
 
 record IsIpv4Range (r : PlainRange) : Type 0 where
   space : r.space ≡ Ipv4
   range : IsRange r
 
 block_range : (text : List ℕ) (r : PlainRange) → block_at text ≡ Some r → IsIpv4Range r
-unfolding block_at
 block_range text r e =
-    let parts = bind_some (parted_at 47 text) _ r e in
-    let start = bind_some (address_of parts.0.0) _ r parts.2 in
-    let len = bind_some (number_up_to 32 parts.0.1) _ r start.2 in
-    let test = chosen (start.0 % 2 ^ (32 - len.0) == 0) (block_of Ipv4 start.0 len.0) r len.2 in
-    let short = number_within 32 parts.0.1 len.0 len.1 in
-    let low = address_below parts.0.0 start.0 start.1 in
-    let ends = block_ends Ipv4 start.0 len.0 (short, low, eqb-true _ _ test.0) in
-    subst IsIpv4Range test.1 (record { space = refl; range = (omega arith, ends) })
+    let read = (block_is_spelled text r).0 e in
+    record { space = read.1; range = range_valid text r (inr (inl read.0)) }
 
 -- ---- the steps
 

@@ -1,10 +1,10 @@
 -- IPv4 addresses and blocks as text: four decimal octets parted by dots (RFC 791 2.3, in the spelling of RFC 3986
 -- 3.2.2, without leading zeros), and behind a slash the length of a prefix (RFC 4632 3.1).
-use Rattle.std.specs.Prelude.{ℕ, ◌+◌, ◌-◌, ◌*◌, ◌/◌, ◌%◌, ◌^◌, Bool, ◌&&◌, ◌==◌, nat_le, if◌then◌else◌, List, [], ◌∷◌, ◌++◌, Option, None, Some}
-use Rattle.std.specs.Fmt.{decimal}
+use Rattle.std.specs.Prelude.{ℕ, ◌+◌, ◌-◌, ◌*◌, ◌%◌, ◌^◌, Bool, ◌&&◌, ◌==◌, nat_le, if◌then◌else◌, List, [], ◌∷◌, Option, None, Some}
 use Rattle.num_range.specs.declared.space.Space.TheVariants.{Ipv4}
 use Rattle.num_range.specs.Range.{PlainRange}
 use Rattle.num_range.specs.Block.{block_of}
+use Rattle.addr_text.specs.Number.{number_text}
 use Rattle.registry_main.specs.Words.{◌>>=◌, parted_at}
 
 abbrev pub is_digit : ℕ → Bool
@@ -46,12 +46,6 @@ block_at text = do
   len ← number_up_to 32 parts.1
   if start % 2 ^ (32 - len) == 0 then Some (block_of Ipv4 start len) else None
 
--- ---- written
-
+-- an address as it is written
 abbrev pub address_text : ℕ → List ℕ
-address_text value =
-    decimal (value / 16777216) ++ 46 ∷ (decimal (value / 65536 % 256) ++ 46 ∷ (decimal (value / 256 % 256) ++ 46 ∷ decimal (value % 256)))
-
--- the first and the last address
-abbrev pub range_text : ℕ → ℕ → List ℕ
-range_text first last = address_text first ++ 32 ∷ 45 ∷ 32 ∷ address_text last
+address_text value = number_text (record { space = Ipv4; value = value })

@@ -1,9 +1,9 @@
-//! IPv4 addresses and blocks, read from text and written.
+//! IPv4 blocks and prefix lengths, read from text.
 ghost use Rattle.std.specs.Prelude.{◌≡◌, ◌≤◌, ◌<◌, IfSome};
 ghost use Rattle.num_range.specs.declared.space.Space.TheVariants.{Ipv4};
-ghost use Rattle.registry_main.specs.Ipv4Text.{small_number, number_up_to, address_of, block_at};
+ghost use Rattle.registry_main.specs.Ipv4Text.{small_number, number_up_to, block_at};
 
-use crate::words::parted_at;
+use addr_text::read_block;
 use num_range::{Range, Space, block};
 
 /// A number below 1,000 in decimal, without sign or leading zero.
@@ -30,29 +30,14 @@ pub fn number_up_to(most: u32, text: &[u8]) -> Option<u32>
     if n <= most { Some(n) } else { None }
 }
 
-/// The value of an address.
-#[tactic(auto, unfolding(crate::specs::Ipv4Text::address_of))]
-fn address_of(text: &[u8]) -> Option<u32>
-    ensures { result ≡ address_of text.now }
-{
-    let (first, rest) = parted_at(b'.', text)?;
-    let a = number_up_to(255, first)?;
-    let (second, rest) = parted_at(b'.', rest)?;
-    let b = number_up_to(255, second)?;
-    let (third, fourth) = parted_at(b'.', rest)?;
-    let c = number_up_to(255, third)?;
-    let d = number_up_to(255, fourth)?;
-    Some(((a * 256 + b) * 256 + c) * 256 + d)
-}
-
-/// The range of a block whose address has no bit set past its length.
-#[tactic(auto, unfolding(crate::specs::Ipv4Text::block_at))]
+/// The range of an IPv4 block whose address has no bit set past its length (RFC 4632 3.1).
 pub fn block_at(text: &[u8]) -> Option<Range>
     ensures block { result ≡ block_at text.now }
     ensures space { IfSome result (λ range. range.space ≡ Ipv4) }
 {
-    let (start, len) = parted_at(b'/', text)?;
-    let start = address_of(start)?;
-    let len = number_up_to(32, len)?;
-    block(Space::Ipv4, start as u128, len)
+    let (start, len) = read_block(text)?;
+    match start.space() {
+        Space::Ipv4 => block(Space::Ipv4, start.value(), len),
+        _ => None,
+    }
 }

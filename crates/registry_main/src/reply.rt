@@ -22,7 +22,7 @@ impl fmt::Display for Address {
     ghost output = { λ a. Some (address_text a.0) };
 
     fn fmt<W: fmt::Write>(&self, f: &mut fmt::Formatter<W>) -> fmt::Result {
-        let a = self.0 / 16777216;
+        let a = self.0 / 16777216 % 256;
         let b = self.0 / 65536 % 256;
         let c = self.0 / 256 % 256;
         let d = self.0 % 256;
