@@ -1,9 +1,9 @@
 -- What is written while a script is read and answered, where the bytes are known.
-use Rattle.std.specs.Prelude.{◌≡◌, ℕ, List, [], ◌++◌, ⊤, Option, None, Some}
+use Rattle.std.specs.Prelude.{◌≡◌, ℕ, List, ◌++◌, ⊤, Option, None, Some}
 use Rattle.std.specs.Io.KnownBytes.{append_known, Keeps, IsAtEnd}
 use Rattle.registry_main.specs.declared.exit.Exit.{Exit}
 use Rattle.registry_main.specs.declared.exit.Exit.TheVariants.{Done}
-use Rattle.registry_main.specs.Session.{Register, empty_register, entry_day, replies_to, batch_text}
+use Rattle.registry_main.specs.Session.{Register, replies_to, batch_text}
 
 -- what was written, and then the replies to the lines of a text
 abbrev pub with_replies : ℕ → Option (List ℕ) → Register → List ℕ → Option (List ℕ)

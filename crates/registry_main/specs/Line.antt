@@ -1,5 +1,5 @@
 -- What a line of the script asks for.
-use Rattle.std.specs.Prelude.{◌≡◌, ◌≤◌, ℕ, Bool, true, false, ◌&&◌, ◌==◌, nat_lt, nat_le, if◌then◌else◌, List, [], ◌∷◌, Option, None, Some, length, codes}
+use Rattle.std.specs.Prelude.{◌≡◌, ◌≤◌, ℕ, Bool, false, ◌&&◌, ◌==◌, nat_lt, if◌then◌else◌, List, [], ◌∷◌, Option, None, Some, length, codes}
 use Rattle.std.specs.Str.{bytes_eq}
 use Rattle.num_range.specs.declared.space.Space.TheVariants.{Ipv4}
 use Rattle.num_range.specs.Range.{PlainRange}

@@ -1,5 +1,5 @@
 -- The front of a line, as much of it as decides what it is answered.
-use Rattle.std.specs.Prelude.{◌≡◌, ℕ, Bool, false, ◌==◌, List, [], ◌∷◌, ◌++◌}
+use Rattle.std.specs.Prelude.{◌≡◌, ℕ, false, ◌==◌, List, [], ◌∷◌, ◌++◌}
 use Rattle.registry_main.specs.Session.{Register, replies_to}
 
 -- no line ends in the text

@@ -1,7 +1,6 @@
 -- The line that answers a request.
-use Rattle.std.specs.Prelude.{ℕ, List, [], ◌∷◌, ◌++◌, Option, None, Some, codes}
+use Rattle.std.specs.Prelude.{ℕ, List, [], ◌++◌, Option, None, Some, codes}
 use Rattle.std.specs.Fmt.{decimal}
-use Rattle.num_range.specs.Range.{PlainRange}
 use Rattle.registry_main.specs.declared.refusal.Refusal.{Refusal}
 use Rattle.registry_main.specs.declared.refusal.Refusal.TheVariants.{Malformed, Overlap, NoBlock, RegisterFull}
 use Rattle.registry_main.specs.declared.reply.Reply.{Reply}

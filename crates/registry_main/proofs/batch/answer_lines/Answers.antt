@@ -1,4 +1,4 @@
-use Rattle.std.proofs.Common.{◌≡◌, ◌≤◌, ◌+◌, ◌++◌, ◌∷◌, ℕ, List, Option, ap, length, arith, length-append}
+use Rattle.std.proofs.Common.{◌≡◌, ◌+◌, ◌++◌, ◌∷◌, ℕ, List, Option, ap, length, arith, length-append}
 use Rattle.registry_main.proofs.Written.{piece_goes_on, piece_breaks, piece_held, OnErr_always}
 use Rattle.registry_main.specs.Batch.{with_replies}
 use Rattle.registry_main.proofs.batch.answer_lines.Goals as goal

@@ -1,4 +1,4 @@
-use Rattle.std.proofs.Common.{◌≡◌, ◌<◌, ◌+◌, ◌∙◌, sym, take, length, length-take, subst, arith}
+use Rattle.std.proofs.Common.{take, length, length-take, arith}
 use Rattle.std.proofs.KnownBytes.{Keeps-trans}
 use Rattle.registry_main.proofs.Written.{piece_read, piece_broken, script_answered, script_broken, bytes_spent, BeginsWith_kept, OnErr_always}
 use Rattle.registry_main.proofs.batch.answer_script.Goals as goal

@@ -1,4 +1,4 @@
-use Rattle.std.proofs.Common.{◌≡◌, ◌∙◌, ap}
+use Rattle.std.proofs.Common.{◌∙◌, ap}
 use Rattle.std.specs.Str.Lines.{strip_carriage_return}
 use Rattle.registry_main.proofs.Written.{line_answered, line_broken, OnErr_always}
 use Rattle.registry_main.proofs.batch.end_line.Goals as goal

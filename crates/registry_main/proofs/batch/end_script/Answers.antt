@@ -1,6 +1,5 @@
-use Rattle.std.proofs.Common.{◌≡◌, ◌<◌, ◌∙◌, sym, length, subst, arith, ℕ, List}
+use Rattle.std.proofs.Common.{◌≡◌, ◌<◌, length, arith}
 use Rattle.std.proofs.lemmas.Bool.Decides.{nat_tests}
-use Rattle.registry_main.specs.LineBuffer.{HasNoNewline}
 use Rattle.registry_main.proofs.Written.{last_answered, last_broken, OnOk_map, OnErr_map}
 use Rattle.registry_main.proofs.batch.end_script.Goals as goal
 

@@ -1,5 +1,4 @@
-use Rattle.std.proofs.Common.{◌≡◌, ◌∙◌, arith}
-use Rattle.std.specs.Result.{OnOk}
+use Rattle.std.proofs.Common.{◌∙◌, arith}
 use Rattle.registry_main.proofs.FirstLine.{with_front_of}
 use Rattle.registry_main.proofs.line_buffer.keep_front.Goals as goal
 
