@@ -4,3 +4,4 @@ pub mod Once
 pub mod Parsed
 pub mod Written
 pub mod Valid
+pub mod Computed

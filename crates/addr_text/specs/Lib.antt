@@ -3,3 +3,4 @@ pub mod Block
 pub mod Number
 pub mod Range
 pub mod Shortening
+pub mod Reading

@@ -7,6 +7,7 @@ ghost use Rattle.addr_text.specs.Address.{SpellsAddress, groups_of};
 ghost use Rattle.addr_text.specs.Block.{SpellsBlock};
 ghost use Rattle.addr_text.specs.Number.{SpellsAsn, SpellsNumber, number_text, text_of};
 ghost use Rattle.addr_text.specs.Range.{SpellsRange, range_text};
+ghost use Rattle.addr_text.specs.Reading.{IsSpelled, number_of, block_of_text, range_of};
 ghost use Rattle.addr_text.specs.Shortening.{IsShortened};
 
 use num_range::Space;
@@ -43,4 +44,12 @@ pub fn reads_written()
 #[tactic(auto, using(crate::proofs::Written::shortened))]
 pub fn shortens_longest()
     ensures { (value : ℕ) → IsShortened (text_of Space.Ipv6 value) (groups_of value) }
+{}
+
+/// The definitions that compute give what a text spells, and nothing where it spells nothing.
+#[tactic(auto, using(crate::proofs::Computed::number_spelled, crate::proofs::Computed::block_spelled, crate::proofs::Computed::range_spelled))]
+pub fn computes_spelled()
+    ensures number { (text : List ℕ) → IsSpelled (SpellsNumber text) (number_of text) }
+    ensures block { (text : List ℕ) → IsSpelled (λ b. SpellsBlock text b.0 b.1) (block_of_text text) }
+    ensures range { (text : List ℕ) → IsSpelled (SpellsRange text) (range_of text) }
 {}

@@ -1,6 +1,7 @@
 ghost use Rattle.std.specs.Prelude.{◌≡◌, ◌≢◌, ℕ, List, ◌+◌, ◌≤◌, ◌++◌, codes, IfSome, IfNone};
 ghost use Rattle.num_range.specs.Number.{PlainNumber};
 ghost use Rattle.addr_text.specs.Number.{SpellsAsn, SpellsNumber, number_text};
+ghost use Rattle.addr_text.specs.Reading.{number_of};
 ghost use Rattle.arrayvec.specs.ArrayVec.{array_vec_len};
 
 use crate::address::{push_ipv4, read_addr};
@@ -30,8 +31,8 @@ fn after_as(text: &[u8]) -> Option<&[u8]>
     }
 }
 
-/// The address that the text spells, or the AS number where it begins with `AS`.
-pub fn read_number(text: &[u8]) -> Option<Number>
+/// The number that the text spells, found by its front.
+fn find_number(text: &[u8]) -> Option<Number>
     ensures some { IfSome result (SpellsNumber text.now) }
     ensures none { IfNone result ((n : PlainNumber) → ¬ (SpellsNumber text.now n)) }
 {
@@ -39,6 +40,16 @@ pub fn read_number(text: &[u8]) -> Option<Number>
         Some(value) => read_asn(value),
         None => read_addr(text),
     }
+}
+
+/// The address that the text spells, or the AS number where it begins with `AS`.
+#[tactic(auto, using(crate::proofs::Computed::number_value))]
+pub fn read_number(text: &[u8]) -> Option<Number>
+    ensures value { result ≡ number_of text.now }
+    ensures some { IfSome result (SpellsNumber text.now) }
+    ensures none { IfNone result ((n : PlainNumber) → ¬ (SpellsNumber text.now n)) }
+{
+    find_number(text)
 }
 
 /// Appends the number's one written text, which has at most 39 bytes: an AS number as `AS` and decimal, IPv4 dotted,

@@ -1,6 +1,7 @@
 ghost use Rattle.std.specs.Prelude.{◌≡◌, ℕ, [], ◌≤◌, ◌↔◌, IsTrue, IfSome, IfNone};
 ghost use Rattle.num_range.specs.Range.{PlainRange};
 ghost use Rattle.addr_text.specs.Range.{IsOneNumber, IsWholeBlock, IsFirstToLast, SpellsRange, range_text};
+ghost use Rattle.addr_text.specs.Reading.{range_of};
 ghost use Rattle.arrayvec.specs.ArrayVec.{array_vec_len};
 
 use crate::append::append;
@@ -50,9 +51,8 @@ fn read_first_to_last(text: &[u8]) -> Option<Range>
     Some(Range::between(first.space(), first.value(), last.value()))
 }
 
-/// The range that the text spells: a number, a block without bits set past its length, or two numbers of one space
-/// with `-` between them, the first at most the second.
-pub fn read_range(text: &[u8]) -> Option<Range>
+/// The range that the text spells, found form by form.
+fn find_range(text: &[u8]) -> Option<Range>
     ensures some { IfSome result (SpellsRange text.now) }
     ensures none { IfNone result ((r : PlainRange) → ¬ (SpellsRange text.now r)) }
 {
@@ -63,6 +63,17 @@ pub fn read_range(text: &[u8]) -> Option<Range>
         return Some(range);
     }
     read_first_to_last(text)
+}
+
+/// The range that the text spells: a number, a block without bits set past its length, or two numbers of one space
+/// with `-` between them, the first at most the second.
+#[tactic(auto, using(crate::proofs::Computed::range_value))]
+pub fn read_range(text: &[u8]) -> Option<Range>
+    ensures value { result ≡ range_of text.now }
+    ensures some { IfSome result (SpellsRange text.now) }
+    ensures none { IfNone result ((r : PlainRange) → ¬ (SpellsRange text.now r)) }
+{
+    find_range(text)
 }
 
 /// Writes `FIRST - LAST` where spaced, and else `FIRST-LAST`: at most 81 bytes.

@@ -1,5 +1,5 @@
 use Rattle.addr_text.proofs.Parsed.{none_then, no_range}
-use Rattle.addr_text.proofs.range.read_range.Goals as goal
+use Rattle.addr_text.proofs.range.find_range.Goals as goal
 
 pub returns-clause-none : goal.returns-clause-none
 returns-clause-none c =
