@@ -1,11 +1,15 @@
 -- What eight digits are read as is what they are written from.
-use Rattle.std.proofs.Common.{◌≡◌, ℕ, ◌+◌, ◌-◌, ◌*◌, ◌/◌, ◌%◌, ◌<◌, ◌≤◌, ◌↔◌, true, ◌&&◌, nat_le, List, [], ◌∷◌, ◌++◌, Option, None, Some, refl, sym, ◌∙◌, ap, subst, arith, pos}
-use Rattle.std.specs.Option.{IsSome, IfSome}
-use Rattle.std.proofs.lemmas.Bool.{cond_both, cond-true, and_parts, and_from, leb-true, le-leb}
+use Rattle.std.proofs.Common.{◌≡◌, ℕ, ◌+◌, ◌-◌, ◌*◌, ◌/◌, ◌%◌, ◌<◌, ◌≤◌, ◌↔◌, true, ◌&&◌, nat_le, List, [], ◌∷◌, ◌++◌, Option, None, Some, refl, sym, ◌∙◌, ap, subst, arith, pos, Bool, false, MatchOption, if◌then◌else◌}
+use Rattle.std.specs.Bool.{Decides}
+use Rattle.std.specs.Str.{bytes_eq}
+use Rattle.std.specs.Option.{IsSome, IfSome, option_and_then}
+use Rattle.std.proofs.lemmas.Bool.Decides.{Decides-and, Decides-like, not_from_Decides}
+use Rattle.std.proofs.lemmas.Slice.Eq.{bytes_eq-Decides}
+use Rattle.std.proofs.lemmas.Bool.{cond_both, cond-true, and_parts, and_from, leb-true, le-leb, both_ways}
 use Rattle.std.proofs.lemmas.Option.{none-some, same_Some}
-use Rattle.reg_entry.specs.Days.{is_digit_byte, digit_pair, two_digits, date_text, day_text, date_of_day, date_of_pairs, date_of_text, last_date, SpellsDay, IsDateOfDay}
+use Rattle.reg_entry.specs.Days.{is_digit_byte, digit_pair, two_digits, date_text, day_text, date_of_day, date_of_pairs, date_of_text, last_date, day_of_date, day_if_spelled, day_of_text, SpellsDay, IsDateOfDay}
 use Rattle.jiff_core.specs.Calendar.{day_count}
-use Rattle.jiff_core.proofs.CalendarLemmas.{days_in_month_bounds}
+use Rattle.jiff_core.proofs.CalendarLemmas.{days_in_month_bounds, day_count-epoch}
 use Rattle.reg_entry.proofs.Calendar.{date_of_day_is}
 
 digit_is : (b : ℕ) → is_digit_byte b ≡ true → (48 ≤ b) × (b ≤ 57)
@@ -108,3 +112,41 @@ day_text_injective a b h k e =
     let counts : day_count (pos (date_of_day a).0) (date_of_day a).1 (date_of_day a).2 ≡ day_count (pos (date_of_day b).0) (date_of_day b).1 (date_of_day b).2 =
     ap (λ t. day_count (pos t.0) t.1 t.2) same in
     omega (arith, counts, there.month_day.counted, here.month_day.counted)
+
+-- ---- what is read
+
+decides_spelled : (text : List ℕ) (day : ℕ) → Decides (nat_le 1 day && nat_le day last_date && bytes_eq text (day_text day)) (SpellsDay text day)
+decides_spelled text day =
+    Decides-like _ (λ h. (h.0.0, h.0.1, h.1)) (λ h. ((h.0, h.1), h.2))
+    (Decides-and _ _ (Decides-and _ _ (decides_le 1 day) (decides_le day last_date)) (bytes_eq-Decides text (day_text day)))
+  where
+    decides_le : (a b : ℕ) → Decides (nat_le a b) (a ≤ b)
+    decides_le a b = (λ e. leb-true a b e, λ l. le-leb a b l)
+
+-- a day's date counts to it
+counted : (day : ℕ) → day ≤ last_date → day_of_date (date_of_day day) ≡ day
+counted day h = let is = date_of_day_is day h in omega (arith, is.month_day.counted, day_count-epoch)
+
+day_spelled : (text : List ℕ) → MatchOption (day_of_text text) ((day : ℕ) → ¬ (SpellsDay text day)) (SpellsDay text)
+day_spelled text = at (date_of_text text) refl
+  where
+    if_spelled : (day : ℕ) (b : Bool) → Decides b (SpellsDay text day) → ((other : ℕ) → SpellsDay text other → other ≡ day) → MatchOption (if b then Some day else None) ((day : ℕ) → ¬ (SpellsDay text day)) (SpellsDay text)
+    if_spelled day true d once = d.0 refl
+    if_spelled day false d once = λ other h. not_from_Decides false d refl (subst (SpellsDay text) (once other h) h)
+
+    at : (date : Option (ℕ × ℕ × ℕ)) → date_of_text text ≡ date → MatchOption (option_and_then (λ date. day_if_spelled text (day_of_date date)) date) ((day : ℕ) → ¬ (SpellsDay text day)) (SpellsDay text)
+    at None e = λ day. spells_none text day e
+    at (Some date) e =
+        if_spelled (day_of_date date) _ (decides_spelled text (day_of_date date))
+        λ other h.
+        let same : date_of_day other ≡ date = same_Some _ _ (sym (day_text_read other h.1) ∙ ap date_of_text (sym h.2) ∙ e) in
+        sym (counted other h.1) ∙ ap day_of_date same
+
+pub day_value : (text : List ℕ) (o : Option ℕ) → (IsSome o ↔ ((day : ℕ) × SpellsDay text day)) → IfSome o (SpellsDay text) → o ≡ day_of_text text
+day_value text o some is = at o (day_of_text text) some is (day_spelled text)
+  where
+    at : (o value : Option ℕ) → (IsSome o ↔ ((day : ℕ) × SpellsDay text day)) → IfSome o (SpellsDay text) → MatchOption value ((day : ℕ) → ¬ (SpellsDay text day)) (SpellsDay text) → o ≡ value
+    at None None some is h = refl
+    at None (Some day) some is h = absurd (both_ways false refl (some.1 (day, h)))
+    at (Some day) None some is h = absurd (h day is)
+    at (Some day) (Some other) some is h = ap Some (day_text_injective day other is.1 h.1 (sym is.2 ∙ h.2))

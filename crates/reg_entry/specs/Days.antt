@@ -1,6 +1,8 @@
 -- Days: counted from 1970-01-01, up to 9999-12-31, and written YYYYMMDD (ISO 8601, basic format).
 use Rattle.std.specs.Prelude.{◌≡◌, ℕ, zero, suc, ◌+◌, ◌-◌, ◌*◌, ◌/◌, ◌%◌, ◌≤◌, min, max, Bool, true, false, ◌&&◌, nat_lt, nat_le, if◌then◌else◌, List, [], ◌∷◌, ◌++◌, Option, None, Some, pos}
-use Rattle.jiff_core.specs.Calendar.{days_in_year, days_in_month}
+use Rattle.std.specs.Option.{option_and_then}
+use Rattle.std.specs.Str.{bytes_eq}
+use Rattle.jiff_core.specs.Calendar.{days_in_year, days_in_month, day_count}
 
 -- 9999-12-31
 abbrev pub last_date : ℕ
@@ -73,3 +75,16 @@ IsDateOfDay d year month day = (1 ≤ d) × (d ≤ last_date) × (date_of_day d 
 -- the text is that of the day, which is no earlier than 1970-01-02
 abbrev pub SpellsDay : List ℕ → ℕ → Type 0
 SpellsDay text day = (1 ≤ day) × (day ≤ last_date) × (text ≡ day_text day)
+
+-- the day of a date, by the calendar's count of days
+abbrev pub day_of_date : ℕ × ℕ × ℕ → ℕ
+day_of_date date = day_count (pos date.0) date.1 date.2 - day_count (pos 1970) 1 1
+
+-- the day, if the text is its text and it is no earlier than 1970-01-02
+abbrev pub day_if_spelled : List ℕ → ℕ → Option ℕ
+day_if_spelled text day =
+    if nat_le 1 day && nat_le day last_date && bytes_eq text (day_text day) then Some day else None
+
+-- the day that a text spells, as it computes
+abbrev pub day_of_text : List ℕ → Option ℕ
+day_of_text text = option_and_then (λ date. day_if_spelled text (day_of_date date)) (date_of_text text)

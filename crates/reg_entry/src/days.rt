@@ -1,7 +1,7 @@
 //! Days as they are written: YYYYMMDD, on the calendar of ISO 8601.
 ghost use Rattle.std.specs.Prelude.{◌≡◌, ℕ, ◌+◌, ◌<◌, ◌≤◌, ◌↔◌, pos, ◌≤ℤ◌, IsSome, IfSome};
 ghost use Rattle.jiff_core.specs.Date.{epoch_day};
-ghost use Rattle.reg_entry.specs.Days.{last_date, date_text, day_text, digit_pair, date_of_text, SpellsDay, IsDateOfDay};
+ghost use Rattle.reg_entry.specs.Days.{last_date, date_text, day_text, digit_pair, date_of_text, day_of_text, SpellsDay, IsDateOfDay};
 
 use jiff_core::civil::Date;
 
@@ -118,8 +118,8 @@ fn day_of_date(year: u32, month: u8, day: u8) -> Option<u32>
     }
 }
 
-/// The day of a text of eight digits, or nothing where it is no date from 19700102 to 99991231.
-pub fn read_day(text: &[u8]) -> Option<u32>
+/// The day that the text spells, found by its date.
+fn find_day(text: &[u8]) -> Option<u32>
     ensures date { IsSome result ↔ ((day : ℕ) × SpellsDay text.now day) }
     ensures day { IfSome result (SpellsDay text.now) }
 {
@@ -127,4 +127,14 @@ pub fn read_day(text: &[u8]) -> Option<u32>
         Some((year, month, day)) => day_of_date(year, month, day),
         None => None,
     }
+}
+
+/// The day of a text of eight digits, or nothing where it is no date from 19700102 to 99991231.
+#[tactic(auto, using(crate::proofs::DayTexts::day_value))]
+pub fn read_day(text: &[u8]) -> Option<u32>
+    ensures value { result ≡ day_of_text text.now }
+    ensures date { IsSome result ↔ ((day : ℕ) × SpellsDay text.now day) }
+    ensures day { IfSome result (SpellsDay text.now) }
+{
+    find_day(text)
 }

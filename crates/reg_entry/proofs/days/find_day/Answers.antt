@@ -1,7 +1,7 @@
 use Rattle.std.proofs.Common.{false, refl, sym, ◌∙◌}
 use Rattle.std.proofs.lemmas.Bool.{both_ways}
 use Rattle.reg_entry.proofs.DayTexts.{spells_where_dated, spells_none}
-use Rattle.reg_entry.proofs.days.read_day.Goals as goal
+use Rattle.reg_entry.proofs.days.find_day.Goals as goal
 
 pub returns-in-Some-clause-date : goal.returns-in-Some-clause-date
 returns-in-Some-clause-date c =
