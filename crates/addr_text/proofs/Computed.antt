@@ -1,5 +1,5 @@
 -- The definitions that compute give what the grammar spells.
-use Rattle.std.proofs.Common.{◌≡◌, ◌≢◌, ℕ, ◌+◌, ◌%◌, ◌<◌, ◌≤◌, ◌^◌, Bool, true, false, ◌&&◌, ◌==◌, nat_le, List, [], ◌∷◌, ◌++◌, take, drop, All, codes, decimal, Option, None, Some, MatchOption, IfSome, IfNone, inl, inr, refl, sym, ap, ◌∙◌, subst, append_assoc, append-nil, length, arith, take-append-drop, lit≤, ne_eqb, ⊎_elim, ◌⊎◌, true≢false, if◌then◌else◌}
+use Rattle.std.proofs.Common.{◌≡◌, ◌≢◌, ℕ, ◌+◌, ◌%◌, ◌<◌, ◌≤◌, ◌^◌, ◌-◌, Bool, true, false, ◌&&◌, ◌==◌, nat_le, List, [], ◌∷◌, ◌++◌, take, drop, All, codes, decimal, Option, None, Some, MatchOption, IfSome, IfNone, inl, inr, refl, sym, ap, ◌∙◌, subst, append_assoc, append-nil, length, arith, take-append-drop, lit≤, ne_eqb, ⊎_elim, ◌⊎◌, true≢false, if◌then◌else◌}
 use Rattle.std.specs.Option.{option_map, option_and_then, option_or}
 use Rattle.std.specs.Int.{w32, w128, from_be_bytes}
 use Rattle.std.specs.Str.{bytes_eq}
@@ -10,7 +10,7 @@ use Rattle.std.specs.Net.Reader.{Read, whole_value, read_ipv4, read_ipv6}
 use Rattle.std.proofs.lemmas.Slice.Eq.{bytes_eq-Decides}
 use Rattle.std.proofs.lemmas.Bool.{cases_Bool}
 use Rattle.std.proofs.lemmas.Bool.Decides.{nat_tests, Decides-and, leb_tells, Decides-eqb, Decides-at, Decides-like, not_from_Decides}
-use Rattle.std.proofs.lemmas.Fmt.{decimal_is_IsNumeral}
+use Rattle.std.proofs.lemmas.Fmt.{decimal_is_IsNumeral, decimal_injective}
 use Rattle.std.specs.Bool.{Decides}
 use Rattle.std.proofs.lemmas.Option.{none-some}
 use Rattle.std.proofs.NetLemmas.Options.{same_parts}
@@ -271,3 +271,18 @@ number_value text o some none = same_value (SpellsNumber text) (number_once text
 
 pub range_value : (text : List ℕ) (o : Option PlainRange) → IfSome o (SpellsRange text) → IfNone o ((r : PlainRange) → ¬ (SpellsRange text r)) → o ≡ range_of text
 range_value text o some none = same_value (SpellsRange text) (range_once text) o (range_of text) some none (range_spelled text)
+
+pub decimal_value : (text : List ℕ) (o : Option ℕ) → IfSome o (λ n. text ≡ decimal n) → IfSome o (λ n. n < 2 ^ 32) → IfNone o ((n : ℕ) → n < 2 ^ 32 → text ≢ decimal n) → o ≡ decimal_up_to (2 ^ 32 - 1) text
+decimal_value text o some fits none =
+    same_value (IsDecimalUpTo (2 ^ 32 - 1) text) once o _ (within o some fits) (beyond o none) (decimal_spelled (2 ^ 32 - 1) text (omega arith))
+  where
+    once : (x y : ℕ) → IsDecimalUpTo (2 ^ 32 - 1) text x → IsDecimalUpTo (2 ^ 32 - 1) text y → x ≡ y
+    once x y h k = decimal_injective x y (omega (arith, h.1)) (omega (arith, k.1)) (sym h.0 ∙ k.0)
+
+    within : (o : Option ℕ) → IfSome o (λ n. text ≡ decimal n) → IfSome o (λ n. n < 2 ^ 32) → IfSome o (IsDecimalUpTo (2 ^ 32 - 1) text)
+    within None h k = tt
+    within (Some n) h k = (h, omega (arith, k))
+
+    beyond : (o : Option ℕ) → IfNone o ((n : ℕ) → n < 2 ^ 32 → text ≢ decimal n) → IfNone o ((n : ℕ) → ¬ (IsDecimalUpTo (2 ^ 32 - 1) text n))
+    beyond None h = λ n k. h n (omega (arith, k.1)) k.0
+    beyond (Some n) h = tt

@@ -1,5 +1,6 @@
 //! Plain decimal: no sign, no leading zero.
-ghost use Rattle.std.specs.Prelude.{◌≡◌, ◌≢◌, ℕ, ◌<◌, ◌≤◌, ◌+◌, ◌^◌, ◌↔◌, ◌++◌, length, decimal, IsTrue, IfSome, IfNone, slice_index};
+ghost use Rattle.std.specs.Prelude.{◌≡◌, ◌≢◌, ℕ, ◌<◌, ◌≤◌, ◌+◌, ◌^◌, ◌-◌, ◌↔◌, ◌++◌, length, decimal, IsTrue, IfSome, IfNone, slice_index};
+ghost use Rattle.addr_text.specs.Reading.{decimal_up_to};
 ghost use Rattle.arrayvec.specs.ArrayVec.{array_vec_len};
 
 use arrayvec::ArrayVec;
@@ -15,9 +16,10 @@ fn has_plain_start(text: &[u8]) -> bool
     }
 }
 
-/// The number of 32 bits that the text is the decimal of.
-pub(crate) fn read_decimal(text: &[u8]) -> Option<u32>
+/// The number of 32 bits that the text is the decimal of, found digit by digit.
+fn find_decimal(text: &[u8]) -> Option<u32>
     ensures some { IfSome result (λ n. text.now ≡ decimal n) }
+    ensures fits { IfSome result (λ n. n < 2 ^ 32) }
     ensures none { IfNone result ((n : ℕ) → n < 2 ^ 32 → text.now ≢ decimal n) }
 {
     if !has_plain_start(text) {
@@ -27,6 +29,15 @@ pub(crate) fn read_decimal(text: &[u8]) -> Option<u32>
         return None;
     };
     digits.parse().ok()
+}
+
+/// The number of 32 bits that the text is the decimal of, without sign or leading zero.
+pub fn read_decimal(text: &[u8]) -> Option<u32>
+    ensures value { result ≡ decimal_up_to (2 ^ 32 - 1) text.now }
+    ensures some { IfSome result (λ n. text.now ≡ decimal n) }
+    ensures none { IfNone result ((n : ℕ) → n < 2 ^ 32 → text.now ≢ decimal n) }
+{
+    find_decimal(text)
 }
 
 /// Appends the number's decimal.
