@@ -15,8 +15,8 @@ use Rattle.reg_entry.specs.Name.{is_name}
 use Rattle.reg_entry.specs.Text.{is_text}
 use Rattle.desk_lang.specs.declared.line.Line.{Line}
 use Rattle.desk_lang.specs.declared.line.Line.TheVariants.{Request, Show, Due, Day, By, Nothing}
-use Rattle.desk_lang.specs.declared.line.Verb.{Verb}
-use Rattle.desk_lang.specs.declared.line.Verb.TheVariants as verbs
+use Rattle.desk_lang.specs.declared.verb.Verb.{Verb}
+use Rattle.desk_lang.specs.declared.verb.Verb.TheVariants as verbs
 use Rattle.desk_lang.specs.declared.rest.Form.TheVariants.{Plain, Quoted}
 use Rattle.desk_lang.specs.declared.rest.Malformed.{Malformed}
 use Rattle.desk_lang.specs.Words.{PlainRest, PlainWord, rest_at, first_word, same_form, next_value, value_of_word, at_end, malformed_at, ◌>>=◌}

@@ -1,9 +1,13 @@
 //! What a line asks for.
-ghost use Rattle.std.specs.Prelude.{◌≡◌};
-ghost use Rattle.desk_lang.specs.Grammar.{verb_of, line_of};
+ghost use Rattle.std.specs.Prelude.{◌≡◌, ◌∷◌, [], ◌&&◌, nat_lt};
+ghost use Rattle.std.specs.Option.{is_some};
+ghost use Rattle.desk_lang.specs.Words.{first_word};
+ghost use Rattle.desk_lang.specs.Grammar.{range_line, number_line, range_and_handle, holder_line, delegate_line, transfer_line, day_line, by_line, more_hosts, reverse_line, line_of_verb, is_comment, line_of};
 
-use num_range::Number;
-use reg_entry::{Name, Request};
+use crate::rest::{Malformed, Rest};
+use crate::verb::{Verb, read_verb};
+use num_range::{Number, Range};
+use reg_entry::{Handle, Holder, Host, Name, Request, SERVER_ROOM, Servers};
 
 /// How many bytes of a line are read, without its line end.
 pub const LINE_ROOM: usize = 1024;
@@ -23,73 +27,215 @@ pub enum Line {
     Nothing,
 }
 
-/// The first word of a line that asks for something.
-#[derive(Clone, Copy, Debug, PartialEq, Eq)]
-pub enum Verb {
-    Receive,
-    Holder,
-    Edit,
-    Delegate,
-    Reserve,
-    Unreserve,
-    Sub,
-    Unsub,
-    Return,
-    Release,
-    Split,
-    Join,
-    Transfer,
-    Reverse,
-    Unreverse,
-    Show,
-    Due,
-    Day,
-    By,
+/// What stands behind `receive`, and behind the other words that a range follows.
+#[tactic(auto, unfolding(crate::specs::Grammar::range_line))]
+fn range_line(rest: &Rest<'_>) -> Result<Range, Malformed>
+    ensures { result ≡ range_line rest.now }
+{
+    let (range, rest) = rest.range()?;
+    rest.end()?;
+    Ok(range)
 }
 
-fn read_verb(word: &[u8]) -> Option<Verb>
-    ensures { result ≡ verb_of word.now }
+#[tactic(auto, unfolding(crate::specs::Grammar::number_line))]
+fn number_line(rest: &Rest<'_>) -> Result<Number, Malformed>
+    ensures { result ≡ number_line rest.now }
 {
-    let verb = if word == b"receive".as_slice() {
-        Verb::Receive
-    } else if word == b"holder".as_slice() {
-        Verb::Holder
-    } else if word == b"edit".as_slice() {
-        Verb::Edit
-    } else if word == b"delegate".as_slice() {
-        Verb::Delegate
-    } else if word == b"reserve".as_slice() {
-        Verb::Reserve
-    } else if word == b"unreserve".as_slice() {
-        Verb::Unreserve
-    } else if word == b"sub".as_slice() {
-        Verb::Sub
-    } else if word == b"unsub".as_slice() {
-        Verb::Unsub
-    } else if word == b"return".as_slice() {
-        Verb::Return
-    } else if word == b"release".as_slice() {
-        Verb::Release
-    } else if word == b"split".as_slice() {
-        Verb::Split
-    } else if word == b"join".as_slice() {
-        Verb::Join
-    } else if word == b"transfer".as_slice() {
-        Verb::Transfer
-    } else if word == b"reverse".as_slice() {
-        Verb::Reverse
-    } else if word == b"unreverse".as_slice() {
-        Verb::Unreverse
-    } else if word == b"show".as_slice() {
-        Verb::Show
-    } else if word == b"due".as_slice() {
-        Verb::Due
-    } else if word == b"day".as_slice() {
-        Verb::Day
-    } else if word == b"by".as_slice() {
-        Verb::By
-    } else {
-        return None;
+    let (number, rest) = rest.number()?;
+    rest.end()?;
+    Ok(number)
+}
+
+#[tactic(auto, unfolding(crate::specs::Grammar::range_and_handle))]
+fn range_and_handle(rest: &Rest<'_>) -> Result<(Range, Handle), Malformed>
+    ensures { result ≡ range_and_handle rest.now }
+{
+    let (range, rest) = rest.range()?;
+    let (handle, rest) = rest.handle()?;
+    rest.end()?;
+    Ok((range, handle))
+}
+
+#[tactic(auto, unfolding(crate::specs::Grammar::holder_line))]
+fn holder_line(rest: &Rest<'_>) -> Result<Holder, Malformed>
+    ensures { result ≡ holder_line rest.now }
+{
+    let (handle, rest) = rest.handle()?;
+    let (kind, rest) = rest.kind()?;
+    let (cc, rest) = rest.cc()?;
+    let (name, rest) = rest.text()?;
+    let (email, rest) = rest.text()?;
+    rest.end()?;
+    Ok(Holder {
+        handle,
+        kind,
+        cc,
+        name,
+        email,
+    })
+}
+
+#[tactic(auto, unfolding(crate::specs::Grammar::delegate_line))]
+fn delegate_line(rest: &Rest<'_>) -> Result<Request, Malformed>
+    ensures { result ≡ delegate_line rest.now }
+{
+    let (space, rest) = rest.space()?;
+    let (amount, rest) = rest.amount(space)?;
+    let (status, rest) = rest.delegation()?;
+    let (handle, rest) = rest.handle()?;
+    rest.end()?;
+    Ok(Request::Delegate {
+        space,
+        amount,
+        status,
+        handle,
+    })
+}
+
+#[tactic(auto, unfolding(crate::specs::Grammar::transfer_line))]
+fn transfer_line(rest: &Rest<'_>) -> Result<Request, Malformed>
+    ensures { result ≡ transfer_line rest.now }
+{
+    let (range, rest) = rest.range()?;
+    let (from, rest) = rest.handle()?;
+    let (to, rest) = rest.handle()?;
+    rest.end()?;
+    Ok(Request::Transfer { range, from, to })
+}
+
+#[tactic(auto, unfolding(crate::specs::Grammar::day_line))]
+fn day_line(rest: &Rest<'_>) -> Result<u32, Malformed>
+    ensures { result ≡ day_line rest.now }
+{
+    let (day, rest) = rest.day()?;
+    rest.end()?;
+    Ok(day)
+}
+
+#[tactic(auto, unfolding(crate::specs::Grammar::by_line))]
+fn by_line(rest: &Rest<'_>) -> Result<Name, Malformed>
+    ensures { result ≡ by_line rest.now }
+{
+    let (name, rest) = rest.name()?;
+    rest.end()?;
+    Ok(name)
+}
+
+/// Whether a host more may come, and something does.
+fn has_more(len: usize, rest: &Rest<'_>) -> bool
+    ensures { result ≡ (nat_lt len 4 && is_some (first_word rest.now)) }
+{
+    len < SERVER_ROOM && rest.first_word().is_some()
+}
+
+/// The hosts behind the first, up to the end of the line.
+fn more_hosts(first: Host, rest: Rest<'_>) -> Result<Servers, Malformed>
+    ensures { result ≡ more_hosts 3 (first ∷ []) rest.entry }
+{
+    let mut hosts = [first; SERVER_ROOM];
+    let mut len = 1;
+    let mut rest = rest;
+    'hosts: while has_more(len, &rest) {
+        let (host, behind) = rest.host()?;
+        hosts[len] = host;
+        len += 1;
+        rest = behind;
+    }
+    rest.end()?;
+    Ok(Servers::new(&hosts[..len]).unwrap())
+}
+
+#[tactic(auto, unfolding(crate::specs::Grammar::reverse_line))]
+fn reverse_line(rest: &Rest<'_>) -> Result<Request, Malformed>
+    ensures { result ≡ reverse_line rest.now }
+{
+    let (range, rest) = rest.range()?;
+    let (host, rest) = rest.host()?;
+    let servers = more_hosts(host, rest)?;
+    Ok(Request::SetReverse { range, servers })
+}
+
+/// What a line asks for by its verb and what stands behind it.
+fn line_of_verb(verb: Verb, rest: &Rest<'_>) -> Result<Line, Malformed>
+    ensures { result ≡ line_of_verb verb rest.now }
+{
+    let request = match verb {
+        Verb::Receive => Request::Receive {
+            range: range_line(rest)?,
+        },
+        Verb::Holder => Request::AddHolder {
+            holder: holder_line(rest)?,
+        },
+        Verb::Edit => Request::EditHolder {
+            holder: holder_line(rest)?,
+        },
+        Verb::Delegate => delegate_line(rest)?,
+        Verb::Reserve => Request::Reserve {
+            range: range_line(rest)?,
+        },
+        Verb::Unreserve => Request::Unreserve {
+            range: range_line(rest)?,
+        },
+        Verb::Sub => {
+            let (range, handle) = range_and_handle(rest)?;
+            Request::SubAssign { range, handle }
+        }
+        Verb::Unsub => Request::SubReturn {
+            range: range_line(rest)?,
+        },
+        Verb::Return => {
+            let (range, handle) = range_and_handle(rest)?;
+            Request::Return { range, handle }
+        }
+        Verb::Release => Request::Release {
+            range: range_line(rest)?,
+        },
+        Verb::Split => Request::Split {
+            at: number_line(rest)?,
+        },
+        Verb::Join => Request::Join {
+            at: number_line(rest)?,
+        },
+        Verb::Transfer => transfer_line(rest)?,
+        Verb::Reverse => reverse_line(rest)?,
+        Verb::Unreverse => Request::ClearReverse {
+            range: range_line(rest)?,
+        },
+        Verb::Show => return Ok(Line::Show(number_line(rest)?)),
+        Verb::Due => {
+            rest.end()?;
+            return Ok(Line::Due);
+        }
+        Verb::Day => return Ok(Line::Day(day_line(rest)?)),
+        Verb::By => return Ok(Line::By(by_line(rest)?)),
     };
-    Some(verb)
+    Ok(Line::Request(request))
+}
+
+fn is_comment(word: &[u8]) -> bool
+    ensures { result ≡ is_comment word.now }
+{
+    matches!(word, [b'#', ..])
+}
+
+/// What a line asks for, which is handed in without its line end.
+pub fn read_line(line: &[u8]) -> Result<Line, Malformed>
+    ensures { result ≡ line_of line.now }
+{
+    if line.len() > LINE_ROOM {
+        return Err(Malformed { place: 1025 });
+    }
+    let Some(word) = Rest::new(line).first_word() else {
+        return Ok(Line::Nothing);
+    };
+    if !word.is_plain() {
+        return Err(word.malformed());
+    }
+    if is_comment(word.bytes()) {
+        return Ok(Line::Nothing);
+    }
+    match read_verb(word.bytes()) {
+        Some(verb) => line_of_verb(verb, &word.behind()),
+        None => Err(word.malformed()),
+    }
 }

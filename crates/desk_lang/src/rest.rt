@@ -1,6 +1,7 @@
 //! What is left of a line, from which word after word is taken.
 ghost use Rattle.std.specs.Prelude.{◌≡◌, ◌≤◌, ◌∷◌, length};
 ghost use Rattle.addr_text.specs.Reading.{parted_at};
+ghost use Rattle.desk_lang.specs.declared.rest.Form.TheVariants.{Plain};
 ghost use Rattle.desk_lang.specs.Words.{is_blank, rest_at, without_blanks, word_length, plain_word, broken_word, ends_word, quoted_word, word_at, first_word, next_word, at_end, malformed_at, same_form};
 
 use crate::parted::parted_at;
@@ -227,10 +228,11 @@ impl<'a> Rest<'a> {
 }
 
 impl<'a> Word<'a> {
-    pub fn form(&self) -> Form
-        ensures { result ≡ self.now.form }
+    /// Whether the word isn't quoted.
+    pub fn is_plain(&self) -> bool
+        ensures { result ≡ same_form self.now.form Plain }
     {
-        self.form
+        self.form.is(Form::Plain)
     }
 
     pub fn bytes(&self) -> &'a [u8]
