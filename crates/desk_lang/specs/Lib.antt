@@ -1,2 +1,4 @@
 pub mod Vocabulary
 pub mod RequestText
+pub mod EntryText
+pub mod ReplyText

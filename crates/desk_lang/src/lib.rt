@@ -3,5 +3,13 @@
 #![tactic(auto)]
 
 mod append;
+mod entry_text;
+mod reply_text;
+mod request_text;
 mod vocabulary;
-mod write_request;
+#[cfg(test)]
+mod write_tests;
+
+pub use entry_text::write_entry;
+pub use reply_text::write_reply;
+pub use request_text::write_request;
