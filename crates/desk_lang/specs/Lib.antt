@@ -1,5 +1,7 @@
 pub mod Vocabulary
 pub mod RequestText
+pub mod EntryText
+pub mod ReplyText
 pub mod Words
 pub mod Values
 pub mod Grammar

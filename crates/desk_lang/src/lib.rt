@@ -1,12 +1,23 @@
-//! The desk language: the lines that hostmasters write, and what is read of them.
+//! The desk language: the lines in which hostmasters ask, and the texts in which requests, entries and replies are
+//! written.
 #![tactic(auto)]
 
+mod append;
+mod entry_text;
 mod line;
 mod parted;
+mod reply_text;
+mod request_text;
 mod rest;
 mod values;
 mod verb;
+mod vocabulary;
+#[cfg(test)]
+mod write_tests;
 
+pub use entry_text::write_entry;
 pub use line::{LINE_ROOM, Line, read_line};
 pub use parted::parted_at;
+pub use reply_text::write_reply;
+pub use request_text::write_request;
 pub use rest::Malformed;
