@@ -1,5 +1,5 @@
 -- The lines of the desk language: what each means, and where one goes wrong.
-use Rattle.std.specs.Prelude.{ℕ, zero, suc, Bool, false, ◌==◌, nat_lt, if◌then◌else◌, List, [], ◌∷◌, ◌++◌, length, Option, None, Some, Result, Ok, Err, codes}
+use Rattle.std.specs.Prelude.{◌≡◌, ℕ, zero, suc, Bool, true, false, ◌==◌, nat_lt, if◌then◌else◌, List, [], ◌∷◌, ◌++◌, length, Option, None, Some, Result, Ok, Err, codes}
 use Rattle.std.specs.Str.{bytes_eq}
 use Rattle.num_range.specs.Number.{PlainNumber}
 use Rattle.num_range.specs.Range.{PlainRange}
@@ -13,6 +13,7 @@ use Rattle.reg_entry.specs.Handle.{is_handle}
 use Rattle.reg_entry.specs.Host.{is_host}
 use Rattle.reg_entry.specs.Name.{is_name}
 use Rattle.reg_entry.specs.Text.{is_text}
+use Rattle.reg_entry.specs.Request.{has_size}
 use Rattle.desk_lang.specs.declared.line.Line.{Line}
 use Rattle.desk_lang.specs.declared.line.Line.TheVariants.{Request, Show, Due, Day, By, Nothing}
 use Rattle.desk_lang.specs.declared.verb.Verb.{Verb}
@@ -164,6 +165,15 @@ line_of_word (Some word) =
     if same_form word.form Plain
     then (if is_comment word.bytes then Ok Nothing else line_of_first word (verb_of word.bytes))
     else Err (malformed_at word.place)
+
+-- a Delegate asks for an amount that has a size
+abbrev pub IsSizedRequest : ARequest → Type 0
+IsSizedRequest (Delegate space amount status handle) = has_size space amount ≡ true
+IsSizedRequest request = Unit {0}
+
+abbrev pub IsSizedLine : Line → Type 0
+IsSizedLine (Request request) = IsSizedRequest request
+IsSizedLine line = Unit {0}
 
 -- a line, of which 1,024 bytes are read
 abbrev pub line_of : List ℕ → Result Line Malformed

@@ -2,6 +2,7 @@ pub mod Vocabulary
 pub mod RequestText
 pub mod EntryText
 pub mod ReplyText
+pub mod ShownText
 pub mod Words
 pub mod Values
 pub mod Grammar

@@ -43,7 +43,7 @@ fn append_holder_number<const N: usize>(holder: Option<u32>, out: &mut ArrayVec<
 }
 
 /// Appends a day of a card.
-fn append_card_day<const N: usize>(day: u32, out: &mut ArrayVec<u8, N>)
+pub(crate) fn append_card_day<const N: usize>(day: u32, out: &mut ArrayVec<u8, N>)
     requires date { day ≤ last_date }
     requires room { array_vec_len out.old + 8 ≤ N }
     ensures text { out.new.items ≡ out.old.items ++ day_word day }

@@ -1,8 +1,8 @@
 //! What a line asks for.
-ghost use Rattle.std.specs.Prelude.{◌≡◌, ◌∷◌, [], ◌&&◌, nat_lt};
+ghost use Rattle.std.specs.Prelude.{◌≡◌, ◌∷◌, [], ◌&&◌, nat_lt, IfOk};
 ghost use Rattle.std.specs.Option.{is_some};
 ghost use Rattle.desk_lang.specs.Words.{first_word};
-ghost use Rattle.desk_lang.specs.Grammar.{range_line, number_line, range_and_handle, holder_line, delegate_line, transfer_line, day_line, by_line, more_hosts, reverse_line, line_of_verb, is_comment, line_of};
+ghost use Rattle.desk_lang.specs.Grammar.{range_line, number_line, range_and_handle, holder_line, delegate_line, transfer_line, day_line, by_line, more_hosts, reverse_line, line_of_verb, is_comment, line_of, IsSizedRequest, IsSizedLine};
 
 use crate::rest::{Malformed, Rest};
 use crate::verb::{Verb, read_verb};
@@ -77,7 +77,8 @@ fn holder_line(rest: &Rest<'_>) -> Result<Holder, Malformed>
 
 #[tactic(auto, unfolding(crate::specs::Grammar::delegate_line))]
 fn delegate_line(rest: &Rest<'_>) -> Result<Request, Malformed>
-    ensures { result ≡ delegate_line rest.now }
+    ensures value { result ≡ delegate_line rest.now }
+    ensures sized { IfOk result IsSizedRequest }
 {
     let (space, rest) = rest.space()?;
     let (amount, rest) = rest.amount(space)?;
@@ -94,7 +95,8 @@ fn delegate_line(rest: &Rest<'_>) -> Result<Request, Malformed>
 
 #[tactic(auto, unfolding(crate::specs::Grammar::transfer_line))]
 fn transfer_line(rest: &Rest<'_>) -> Result<Request, Malformed>
-    ensures { result ≡ transfer_line rest.now }
+    ensures value { result ≡ transfer_line rest.now }
+    ensures sized { IfOk result IsSizedRequest }
 {
     let (range, rest) = rest.range()?;
     let (from, rest) = rest.handle()?;
@@ -147,7 +149,8 @@ fn more_hosts(first: Host, rest: Rest<'_>) -> Result<Servers, Malformed>
 
 #[tactic(auto, unfolding(crate::specs::Grammar::reverse_line))]
 fn reverse_line(rest: &Rest<'_>) -> Result<Request, Malformed>
-    ensures { result ≡ reverse_line rest.now }
+    ensures value { result ≡ reverse_line rest.now }
+    ensures sized { IfOk result IsSizedRequest }
 {
     let (range, rest) = rest.range()?;
     let (host, rest) = rest.host()?;
@@ -157,7 +160,8 @@ fn reverse_line(rest: &Rest<'_>) -> Result<Request, Malformed>
 
 /// What a line asks for by its verb and what stands behind it.
 fn line_of_verb(verb: Verb, rest: &Rest<'_>) -> Result<Line, Malformed>
-    ensures { result ≡ line_of_verb verb rest.now }
+    ensures value { result ≡ line_of_verb verb rest.now }
+    ensures sized { IfOk result IsSizedLine }
 {
     let request = match verb {
         Verb::Receive => Request::Receive {
@@ -220,7 +224,8 @@ fn is_comment(word: &[u8]) -> bool
 
 /// What a line asks for, which is handed in without its line end.
 pub fn read_line(line: &[u8]) -> Result<Line, Malformed>
-    ensures { result ≡ line_of line.now }
+    ensures value { result ≡ line_of line.now }
+    ensures sized { IfOk result IsSizedLine }
 {
     if line.len() > LINE_ROOM {
         return Err(Malformed { place: 1025 });

@@ -1,5 +1,5 @@
 //! The values of the words of a line.
-ghost use Rattle.std.specs.Prelude.{◌≡◌};
+ghost use Rattle.std.specs.Prelude.{◌≡◌, true, IfOk, IfSome};
 ghost use Rattle.addr_text.specs.Reading.{number_of, range_of};
 ghost use Rattle.reg_entry.specs.Cc.{is_cc};
 ghost use Rattle.reg_entry.specs.Days.{day_of_text};
@@ -79,7 +79,8 @@ fn has_size(space: Space, amount: u32) -> bool
 
 /// A count of AS numbers, or the prefix length of a block.
 fn read_amount(space: Space, word: &[u8]) -> Option<u32>
-    ensures { result ≡ amount_of space word.now }
+    ensures value { result ≡ amount_of space word.now }
+    ensures sized { IfSome result (λ amount. has_size space amount ≡ true) }
 {
     let amount = match space {
         Space::Asn => read_decimal(word)?,
@@ -194,7 +195,8 @@ impl<'a> Rest<'a> {
     }
 
     pub fn amount(&self, space: Space) -> Result<(u32, Rest<'a>), Malformed>
-        ensures { result ≡ next_value Plain (amount_of space) self.now }
+        ensures value { result ≡ next_value Plain (amount_of space) self.now }
+        ensures sized { IfOk result (λ amount. has_size space amount.0 ≡ true) }
     {
         let word = self.next_word(Form::Plain)?;
         match read_amount(space, word.bytes()) {
