@@ -1,3 +1,4 @@
 pub mod Fronts
 pub mod Hosts
+pub mod ValidLines
 mod WrittenRows

@@ -1,5 +1,5 @@
 -- The lines of the desk language: what each means, and where one goes wrong.
-use Rattle.std.specs.Prelude.{◌≡◌, ℕ, zero, suc, Bool, true, false, ◌==◌, nat_lt, if◌then◌else◌, List, [], ◌∷◌, ◌++◌, length, Option, None, Some, Result, Ok, Err, codes}
+use Rattle.std.specs.Prelude.{◌≡◌, ◌≤◌, ℕ, zero, suc, Bool, true, false, ◌==◌, nat_lt, if◌then◌else◌, List, [], ◌∷◌, ◌++◌, length, Option, None, Some, Result, Ok, Err, codes}
 use Rattle.std.specs.Str.{bytes_eq}
 use Rattle.num_range.specs.Number.{PlainNumber}
 use Rattle.num_range.specs.Range.{PlainRange}
@@ -8,12 +8,12 @@ use Rattle.reg_entry.specs.declared.holder.Holder.{Holder}
 use Rattle.reg_entry.specs.declared.request.Request.{Request as ARequest}
 use Rattle.reg_entry.specs.declared.request.Request.TheVariants.{Receive, AddHolder, EditHolder, Delegate, Reserve, Unreserve, SubAssign, SubReturn, Return, Release, Split, Join, Transfer, SetReverse, ClearReverse}
 use Rattle.reg_entry.specs.Cc.{is_cc}
-use Rattle.reg_entry.specs.Days.{day_of_text}
+use Rattle.reg_entry.specs.Days.{last_date, day_of_text}
 use Rattle.reg_entry.specs.Handle.{is_handle}
 use Rattle.reg_entry.specs.Host.{is_host}
 use Rattle.reg_entry.specs.Name.{is_name}
 use Rattle.reg_entry.specs.Text.{is_text}
-use Rattle.reg_entry.specs.Request.{has_size}
+use Rattle.reg_entry.specs.Request.{has_size, is_request, is_number}
 use Rattle.desk_lang.specs.declared.line.Line.{Line}
 use Rattle.desk_lang.specs.declared.line.Line.TheVariants.{Request, Show, Due, Day, By, Nothing}
 use Rattle.desk_lang.specs.declared.verb.Verb.{Verb}
@@ -174,6 +174,17 @@ IsSizedRequest request = Unit {0}
 abbrev pub IsSizedLine : Line → Type 0
 IsSizedLine (Request request) = IsSizedRequest request
 IsSizedLine line = Unit {0}
+
+-- the ranges and numbers that a line names are those of their spaces
+abbrev pub IsValidLine : Line → Type 0
+IsValidLine (Request request) = (is_request request ≡ true) × IsSizedRequest request
+IsValidLine (Show n) = is_number n ≡ true
+IsValidLine line = Unit {0}
+
+-- a day that is named is one of the calendar's from 1970-01-02 on
+abbrev pub IsDatedLine : Line → Type 0
+IsDatedLine (Day day) = (1 ≤ day) × (day ≤ last_date)
+IsDatedLine line = Unit {0}
 
 -- a line, of which 1,024 bytes are read
 abbrev pub line_of : List ℕ → Result Line Malformed

@@ -1,8 +1,9 @@
 //! What a line asks for.
-ghost use Rattle.std.specs.Prelude.{◌≡◌, ◌∷◌, [], ◌&&◌, nat_lt, IfOk};
+ghost use Rattle.std.specs.Prelude.{◌≡◌, ◌∷◌, [], ◌&&◌, nat_lt, ◌≤◌, IfOk};
 ghost use Rattle.std.specs.Option.{is_some};
 ghost use Rattle.desk_lang.specs.Words.{first_word};
-ghost use Rattle.desk_lang.specs.Grammar.{range_line, number_line, range_and_handle, holder_line, delegate_line, transfer_line, day_line, by_line, more_hosts, reverse_line, line_of_verb, is_comment, line_of, IsSizedRequest, IsSizedLine};
+ghost use Rattle.reg_entry.specs.Days.{last_date};
+ghost use Rattle.desk_lang.specs.Grammar.{range_line, number_line, range_and_handle, holder_line, delegate_line, transfer_line, day_line, by_line, more_hosts, reverse_line, line_of_verb, is_comment, line_of, IsSizedRequest, IsSizedLine, IsDatedLine};
 
 use crate::rest::{Malformed, Rest};
 use crate::verb::{Verb, read_verb};
@@ -107,7 +108,8 @@ fn transfer_line(rest: &Rest<'_>) -> Result<Request, Malformed>
 
 #[tactic(auto, unfolding(crate::specs::Grammar::day_line))]
 fn day_line(rest: &Rest<'_>) -> Result<u32, Malformed>
-    ensures { result ≡ day_line rest.now }
+    ensures value { result ≡ day_line rest.now }
+    ensures dated { IfOk result (λ day. (1 ≤ day) × (day ≤ last_date)) }
 {
     let (day, rest) = rest.day()?;
     rest.end()?;
@@ -162,6 +164,7 @@ fn reverse_line(rest: &Rest<'_>) -> Result<Request, Malformed>
 fn line_of_verb(verb: Verb, rest: &Rest<'_>) -> Result<Line, Malformed>
     ensures value { result ≡ line_of_verb verb rest.now }
     ensures sized { IfOk result IsSizedLine }
+    ensures dated { IfOk result IsDatedLine }
 {
     let request = match verb {
         Verb::Receive => Request::Receive {
@@ -226,6 +229,7 @@ fn is_comment(word: &[u8]) -> bool
 pub fn read_line(line: &[u8]) -> Result<Line, Malformed>
     ensures value { result ≡ line_of line.now }
     ensures sized { IfOk result IsSizedLine }
+    ensures dated { IfOk result IsDatedLine }
 {
     if line.len() > LINE_ROOM {
         return Err(Malformed { place: 1025 });

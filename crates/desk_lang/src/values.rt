@@ -1,8 +1,8 @@
 //! The values of the words of a line.
-ghost use Rattle.std.specs.Prelude.{◌≡◌, true, IfOk, IfSome};
+ghost use Rattle.std.specs.Prelude.{◌≡◌, ◌≤◌, true, IfOk, IfSome};
 ghost use Rattle.addr_text.specs.Reading.{number_of, range_of};
 ghost use Rattle.reg_entry.specs.Cc.{is_cc};
-ghost use Rattle.reg_entry.specs.Days.{day_of_text};
+ghost use Rattle.reg_entry.specs.Days.{last_date, day_of_text};
 ghost use Rattle.reg_entry.specs.Handle.{is_handle};
 ghost use Rattle.reg_entry.specs.Host.{is_host};
 ghost use Rattle.reg_entry.specs.Name.{is_name};
@@ -165,7 +165,8 @@ impl<'a> Rest<'a> {
     }
 
     pub fn day(&self) -> Result<(u32, Rest<'a>), Malformed>
-        ensures { result ≡ next_value Plain day_of_text self.now }
+        ensures value { result ≡ next_value Plain day_of_text self.now }
+        ensures dated { IfOk result (λ day. (1 ≤ day.0) × (day.0 ≤ last_date)) }
     {
         let word = self.next_word(Form::Plain)?;
         match read_day(word.bytes()) {

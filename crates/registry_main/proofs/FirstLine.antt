@@ -6,10 +6,12 @@ use Rattle.std.specs.Prelude.{◌==◌, slice_index}
 use Rattle.std.specs.List.{slice_split, onto_first}
 use Rattle.std.specs.Str.Lines.{lines, lines_of_parts, strip_carriage_return}
 use Rattle.std.proofs.lemmas.Bool.{cases_Bool, cases_lt, lt-ltb, ne_eqb, eqb-true}
-use Rattle.registry_main.specs.declared.line.Line.TheVariants.{Malformed}
-use Rattle.registry_main.specs.Line.{line_of}
-use Rattle.registry_main.specs.Session.{Register, answered, step_of, replies, replies_to}
-use Rattle.registry_main.specs.Replies.{answer_text}
+use Rattle.std.specs.Prelude.{Result, Ok, Err}
+use Rattle.desk_lang.specs.declared.line.Line.{Line}
+use Rattle.desk_lang.specs.declared.rest.Malformed.{Malformed}
+use Rattle.desk_lang.specs.Words.{malformed_at}
+use Rattle.desk_lang.specs.Grammar.{line_of}
+use Rattle.registry_main.specs.Session.{PlainSession, Step, answered, answer_text, step_of, replies, replies_to}
 use Rattle.registry_main.specs.LineBuffer.{HasNoNewline, IsAnsweredAs}
 
 abbrev is_newline : ℕ → Bool
@@ -56,18 +58,22 @@ lines-last : (line : List ℕ) → HasNoNewline line → 0 < length line → lin
 lines-last [] h some = absurd (omega arith)
 lines-last (b ∷ bs) h some = ap lines_of_parts (split_last (b ∷ bs) h) ∙ rw (ne_eqb (length (b ∷ bs)) 0 (omega arith)) refl
 
-pub replies_to-line : (day : ℕ) (r : Register) (line rest : List ℕ) → HasNoNewline line
-    → replies_to day r (line ++ 10 ∷ rest)
-    ≡ answer_text (answered day r (strip_carriage_return line)).reply ++ replies_to day (answered day r (strip_carriage_return line)).register rest
-replies_to-line day r line rest h = ap (replies day r) (lines-line line rest h)
+pub replies_to-line : (r : PlainSession) (line rest : List ℕ) → HasNoNewline line
+    → replies_to r (line ++ 10 ∷ rest)
+    ≡ answer_text (answered r (strip_carriage_return line)).answer ++ replies_to (answered r (strip_carriage_return line)).session rest
+replies_to-line r line rest h = ap (replies r) (lines-line line rest h)
 
-pub replies_to-last : (day : ℕ) (r : Register) (line : List ℕ) → HasNoNewline line → 0 < length line
-    → replies_to day r line ≡ answer_text (answered day r line).reply
-replies_to-last day r line h some = ap (replies day r) (lines-last line h some) ∙ append-nil _
+pub replies_to-last : (r : PlainSession) (line : List ℕ) → HasNoNewline line → 0 < length line
+    → replies_to r line ≡ answer_text (answered r line).answer
+replies_to-last r line h some = ap (replies r) (lines-last line h some) ∙ append-nil _
 
 -- ---- lines that are too long
 
-overlong_is_malformed : (line : List ℕ) → 1024 < length line → line_of line ≡ Malformed
+-- such a line goes wrong behind its 1,024th byte
+abbrev too_long : PlainSession → Step
+too_long r = step_of r (Err (malformed_at 1025))
+
+overlong_is_malformed : (line : List ℕ) → 1024 < length line → line_of line ≡ Err (malformed_at 1025)
 overlong_is_malformed line long = rw (lt-ltb 1024 (length line) long) refl
 
 -- what stands before the first newline, and behind it where there is one
@@ -101,40 +107,40 @@ strip_loses_one line = elim (cases_Bool (slice_index line (length line - 1) == 1
 ]
 
 -- what a line that is too long is answered doesn't depend on it
-answer_overlong : (day : ℕ) (r : Register) (line : List ℕ) → 1024 < length line → answered day r line ≡ step_of day r Malformed
-answer_overlong day r line long = ap (step_of day r) (overlong_is_malformed line long)
+answer_overlong : (r : PlainSession) (line : List ℕ) → 1024 < length line → answered r line ≡ too_long r
+answer_overlong r line long = ap (step_of r) (overlong_is_malformed line long)
 
 -- a text whose first line is too long, up to its end or up to a newline
-overlong-last : (day : ℕ) (r : Register) (line : List ℕ) → HasNoNewline line → 1025 < length line
-    → replies_to day r line ≡ answer_text (step_of day r Malformed).reply
-overlong-last day r line h long =
-    replies_to-last day r line h (omega arith) ∙ ap (λ a. answer_text a.reply) (answer_overlong day r line (omega arith))
+overlong-last : (r : PlainSession) (line : List ℕ) → HasNoNewline line → 1025 < length line
+    → replies_to r line ≡ answer_text (too_long r).answer
+overlong-last r line h long =
+    replies_to-last r line h (omega arith) ∙ ap (λ a. answer_text a.answer) (answer_overlong r line (omega arith))
 
-overlong-line : (day : ℕ) (r : Register) (line rest : List ℕ) → HasNoNewline line → 1025 < length line
-    → replies_to day r (line ++ 10 ∷ rest) ≡ answer_text (step_of day r Malformed).reply ++ replies_to day r rest
-overlong-line day r line rest h long =
+overlong-line : (r : PlainSession) (line rest : List ℕ) → HasNoNewline line → 1025 < length line
+    → replies_to r (line ++ 10 ∷ rest) ≡ answer_text (too_long r).answer ++ replies_to r rest
+overlong-line r line rest h long =
     let stripped = strip_carriage_return line in
     let enough : 1024 < length stripped = let s = strip_loses_one line in omega arith in
-    replies_to-line day r line rest h
-    ∙ ap (λ a. answer_text a.reply ++ replies_to day a.register rest) (answer_overlong day r stripped enough)
+    replies_to-line r line rest h
+    ∙ ap (λ a. answer_text a.answer ++ replies_to a.session rest) (answer_overlong r stripped enough)
 
 -- every line that is too long is answered as every other
-overlong_same : (day : ℕ) (r : Register) (long other : List ℕ) → HasNoNewline long → HasNoNewline other → 1025 < length long → 1025 < length other
-    → (tail : List ℕ) → replies_to day r (long ++ tail) ≡ replies_to day r (other ++ tail)
-overlong_same day r long other h k m n tail =
+overlong_same : (r : PlainSession) (long other : List ℕ) → HasNoNewline long → HasNoNewline other → 1025 < length long → 1025 < length other
+    → (tail : List ℕ) → replies_to r (long ++ tail) ≡ replies_to r (other ++ tail)
+overlong_same r long other h k m n tail =
     let found = first_line tail in
     let clear : (xs : List ℕ) → HasNoNewline xs → HasNoNewline (xs ++ found.line) = λ xs c. no_newline-append xs found.line c found.clear in
     let longer : (xs : List ℕ) → 1025 < length xs → 1025 < length (xs ++ found.line) = λ xs l. simp length-append (omega arith) in
     elim found.rest [
       | inl e ↦
-          let last : (xs : List ℕ) → HasNoNewline xs → 1025 < length xs → replies_to day r (xs ++ tail) ≡ answer_text (step_of day r Malformed).reply =
-          λ xs c l. ap (λ t. replies_to day r (xs ++ t)) e ∙ overlong-last day r (xs ++ found.line) (clear xs c) (longer xs l) in
+          let last : (xs : List ℕ) → HasNoNewline xs → 1025 < length xs → replies_to r (xs ++ tail) ≡ answer_text (too_long r).answer =
+          λ xs c l. ap (λ t. replies_to r (xs ++ t)) e ∙ overlong-last r (xs ++ found.line) (clear xs c) (longer xs l) in
           last long h m ∙ sym (last other k n)
       | inr w ↦
           let line : (xs : List ℕ) → HasNoNewline xs → 1025 < length xs
-          → replies_to day r (xs ++ tail) ≡ answer_text (step_of day r Malformed).reply ++ replies_to day r w.0 =
-          λ xs c l. ap (λ t. replies_to day r (xs ++ t)) w.1 ∙ ap (replies_to day r) (sym (append_assoc xs found.line (10 ∷ w.0)))
-          ∙ overlong-line day r (xs ++ found.line) w.0 (clear xs c) (longer xs l) in
+          → replies_to r (xs ++ tail) ≡ answer_text (too_long r).answer ++ replies_to r w.0 =
+          λ xs c l. ap (λ t. replies_to r (xs ++ t)) w.1 ∙ ap (replies_to r) (sym (append_assoc xs found.line (10 ∷ w.0)))
+          ∙ overlong-line r (xs ++ found.line) w.0 (clear xs c) (longer xs l) in
           line long h m ∙ sym (line other k n)
     ]
 
@@ -145,9 +151,9 @@ no_newline-take (suc n) (x ∷ xs) h = (h.0, no_newline-take n xs h.1)
 
 -- the first 1,026 bytes of a line are answered as the line
 held_is_enough : (line : List ℕ) → HasNoNewline line → IsAnsweredAs (take 1026 line) line
-held_is_enough line h = λ day r tail. elim (cases_lt 1026 (length line)) [
-  | inl more ↦ overlong_same day r (take 1026 line) line (no_newline-take 1026 line h) h (omega (arith, length-take 1026 line)) (omega arith) tail
-  | inr all ↦ ap (λ l. replies_to day r (l ++ tail)) (take_all 1026 line all)
+held_is_enough line h = λ r tail. elim (cases_lt 1026 (length line)) [
+  | inl more ↦ overlong_same r (take 1026 line) line (no_newline-take 1026 line h) h (omega (arith, length-take 1026 line)) (omega arith) tail
+  | inr all ↦ ap (λ l. replies_to r (l ++ tail)) (take_all 1026 line all)
 ]
 
 pub kept_line : (old bytes new : List ℕ) → HasNoNewline old → HasNoNewline bytes → new ≡ take 1026 (old ++ bytes) → HasNoNewline new
@@ -155,8 +161,8 @@ kept_line old bytes new h k e = subst HasNoNewline (sym e) (no_newline-take 1026
 
 pub kept_is_enough : (old bytes new : List ℕ) → HasNoNewline old → HasNoNewline bytes → new ≡ take 1026 (old ++ bytes)
     → IsAnsweredAs new (old ++ bytes)
-kept_is_enough old bytes new h k e = λ day r tail.
-    ap (λ l. replies_to day r (l ++ tail)) e ∙ held_is_enough (old ++ bytes) (no_newline-append old bytes h k) day r tail
+kept_is_enough old bytes new h k e = λ r tail.
+    ap (λ l. replies_to r (l ++ tail)) e ∙ held_is_enough (old ++ bytes) (no_newline-append old bytes h k) r tail
 
 pub kept_no_more : (old bytes new : List ℕ) → new ≡ take 1026 (old ++ bytes) → length new ≤ length old + length bytes
 kept_no_more old bytes new e = omega (arith, ap length e, length-take 1026 (old ++ bytes), length-append old bytes)

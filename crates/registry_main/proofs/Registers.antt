@@ -1,129 +1,162 @@
--- The pieces of every register that a script builds are pieces of IPv4.
-use Rattle.std.proofs.Common.{◌≡◌, ℕ, ◌-◌, ◌<◌, Bool, true, false, cond, List, [], ◌∷◌, length, Option, None, Some, refl, sym, ◌∙◌, arith, inl, inr}
-use Rattle.std.specs.Prelude.{◌&&◌, nat_lt, codes}
-use Rattle.std.specs.Str.{bytes_eq}
-use Rattle.num_range.specs.declared.space.Space.TheVariants.{Ipv4, Ipv6}
-use Rattle.num_range.specs.Range.{PlainRange, IsRange}
-use Rattle.num_range.specs.Block.{block_size, block_of}
-use Rattle.addr_text.proofs.Valid.{range_valid}
-use Rattle.reg_entry.specs.declared.card.Card.{Card}
-use Rattle.reg_entry.specs.Card.{plain_card}
-use Rattle.reg_entry.specs.Pieces.{laid, overlap, ArePieces, IsCard, IsPoolRange, IsLeastTaken}
-use Rattle.reg_entry.specs.Blocks.{least_block, IsLeastBlock}
+-- The pieces of every register that a script builds are pieces of their spaces.
+use Rattle.std.proofs.Common.{◌≡◌, ℕ, ◌-◌, ◌<◌, ◌≤◌, Bool, true, false, cond, List, [], ◌∷◌, length, Option, None, Some, Result, Ok, Err, refl, sym, ◌∙◌, ap, subst, arith, inl, inr}
+use Rattle.std.specs.Prelude.{nat_lt, nat_le, max, ◌^◌}
+use Rattle.std.specs.Option.{option_or}
+use Rattle.std.proofs.lemmas.Bool.{cases_Bool, ltb-true, ltb-false, leb-true, and_parts}
 use Rattle.std.proofs.lemmas.Nat.{pow_pos}
-use Rattle.reg_entry.specs.Handle.{is_handle}
+use Rattle.num_range.specs.Space.{top_of}
+use Rattle.reg_entry.specs.declared.piece.Piece.{Piece}
+use Rattle.std.specs.Result.{IfOk}
+use Rattle.num_range.specs.declared.space.Space.{Space}
+use Rattle.num_range.specs.declared.space.Space.TheVariants.{Asn, Ipv4, Ipv6}
+use Rattle.num_range.specs.Range.{PlainRange, IsRange}
+use Rattle.reg_entry.specs.declared.card.Card.{Card}
+use Rattle.reg_entry.specs.declared.refusal.Refusal.{Refusal}
+use Rattle.reg_entry.specs.declared.request.Delegation.{Delegation}
+use Rattle.reg_entry.specs.declared.request.Delegation.TheVariants.{Allocate, Assign}
+use Rattle.reg_entry.specs.declared.request.Request.{Request as ARequest}
+use Rattle.reg_entry.specs.declared.request.Request.TheVariants.{Receive, AddHolder, EditHolder, Delegate, Reserve, Unreserve, SubAssign, SubReturn, Return, Release, Split, Join, Transfer, SetReverse, ClearReverse}
+use Rattle.reg_entry.specs.Blocks.{least_block, IsLeastBlock}
+use Rattle.reg_entry.specs.Card.{is_available, plain_card}
+use Rattle.reg_entry.specs.Covers.{range_from, holder_card}
+use Rattle.reg_entry.specs.Decision.{least_outside_unicast, least_unpooled, outside_unicast, outside_at}
+use Rattle.reg_entry.specs.Partition.{Partition, pieces_in, with_pieces, piece_count, IsPartition}
+use Rattle.reg_entry.specs.Pieces.{laid, overlap, ArePieces, IsCard, IsPoolRange, IsLeastTaken}
+use Rattle.reg_entry.specs.Request.{status_of, amount_size, has_size, is_range, is_request}
 use Rattle.reg_entry.proofs.Laying.{laid_keeps}
 use Rattle.reg_entry.proofs.LeastBlock.{least_block_is_least}
 use Rattle.reg_entry.proofs.Overlaps.{overlap_is_least}
-use Rattle.registry_main.specs.declared.line.Line.{Line}
-use Rattle.registry_main.specs.declared.line.Line.TheVariants.{Nothing, Malformed, Receive, Delegate}
-use Rattle.registry_main.specs.Words.{words_of}
-use Rattle.registry_main.specs.Ipv4Text.{block_at}
-use Rattle.registry_main.specs.Line.{line_of, line_of_words, receive_line, delegate_line, amount_of, is_comment, received, delegated}
-use Rattle.registry_main.specs.Session as session
-use Rattle.registry_main.specs.Session.{Register, empty_register, answered, step_of, painted, register_after, room}
-use Rattle.registry_main.proofs.FoundBlock.{found_within}
-use Rattle.registry_main.proofs.Ipv4Spelling.{block_is_spelled}
+use Rattle.desk_lang.specs.declared.line.Line.{Line}
+use Rattle.desk_lang.specs.declared.line.Line.TheVariants.{Request, Show, Due, Day, By, Nothing}
+use Rattle.desk_lang.specs.declared.rest.Malformed.{Malformed}
+use Rattle.desk_lang.specs.Grammar.{line_of, IsSizedRequest, IsValidLine}
+use Rattle.desk_lang.proofs.ValidLines.{line_valid}
+use Rattle.registry_main.specs.Session.{PlainSession, Step, new_session, answered, step_of, requested, received, delegated, receive_refusal, painted, painted_pool, refused, with_entry, entry_day, session_after, room}
+use Rattle.registry_main.specs.Holders.{holder_number, with_handle}
+use Rattle.registry_main.proofs.FoundBlock.{found_within, found_pooled}
 
--- ---- the ranges that are read
+abbrev HasPieces : PlainSession → Type 0
+HasPieces s = IsPartition s.pool
 
-record IsIpv4Range (r : PlainRange) : Type 0 where
-  space : r.space ≡ Ipv4
-  range : IsRange r
+after_test : (b : Bool) (s t : Step) → HasPieces s.session → HasPieces t.session → HasPieces (cond b s t).session
+after_test true s t h k = h
+after_test false s t h k = k
 
-block_range : (text : List ℕ) (r : PlainRange) → block_at text ≡ Some r → IsIpv4Range r
-block_range text r e =
-    let read = (block_is_spelled text r).0 e in
-    record { space = read.1; range = range_valid text r (inr (inl read.0)) }
+-- ---- painting
 
--- ---- the steps
+with_keeps : (pool : Partition) (space : Space) (ps : List Piece) → IsPartition pool → ArePieces space ps → IsPartition (with_pieces pool space ps)
+with_keeps pool Asn ps h new = record { each = λ s. elim s [ Asn ↦ new | Ipv4 ↦ h.each Ipv4 | Ipv6 ↦ h.each Ipv6 ] }
+with_keeps pool Ipv4 ps h new = record { each = λ s. elim s [ Asn ↦ h.each Asn | Ipv4 ↦ new | Ipv6 ↦ h.each Ipv6 ] }
+with_keeps pool Ipv6 ps h new = record { each = λ s. elim s [ Asn ↦ h.each Asn | Ipv4 ↦ h.each Ipv4 | Ipv6 ↦ new ] }
 
-abbrev HasPieces : Register → Type 0
-HasPieces r = ArePieces Ipv4 r.pieces
+painted_keeps : (s : PlainSession) (handles : List (List ℕ)) (request : ARequest) (range : PlainRange) (c : Card) → HasPieces s → IsRange range
+    → IsPoolRange range → IsCard c → HasPieces (painted s handles request range c).session
+painted_keeps s handles request range c h valid pooled card =
+    after_test (nat_lt room (piece_count (painted_pool s range c))) (refused s _) _ h
+    (with_keeps s.pool range.space _ h (laid_keeps range.space (pieces_in s.pool range.space) range c (h.each range.space) refl valid pooled card))
 
-after_test : (b : Bool) (r : Register) (s t : session.Step) → HasPieces s.register → HasPieces t.register → HasPieces (cond b s t).register
-after_test true r s t h k = h
-after_test false r s t h k = k
+-- ---- the requests
 
-painted_keeps : (r : Register) (handles : List (List ℕ)) (range : PlainRange) (c : Card) → HasPieces r → IsIpv4Range range → IsCard c
-    → HasPieces (painted r handles range c).register
-painted_keeps r handles range c h valid card =
-    let pooled : IsPoolRange range = λ six. let apart : Ipv4 ≡ Ipv6 = sym valid.space ∙ six in cc in
-    after_test (nat_lt room (length (laid r.pieces range c))) r _ _ h
-    (laid_keeps Ipv4 r.pieces range c h valid.space valid.range pooled card)
+-- a range that isn't refused lies in global unicast
+none_of : (a b : Option Refusal) → option_or a b ≡ None → a ≡ None
+none_of None b e = refl
+none_of (Some x) b e = cc
 
-received_keeps : (r : Register) (range : PlainRange) (taken : Option ℕ) → HasPieces r → IsIpv4Range range
-    → HasPieces (session.received r range taken).register
-received_keeps r range None h valid = painted_keeps r r.handles range plain_card h valid (λ _. refl)
-received_keeps r range (Some n) h valid = h
+unpooled : (r : PlainRange) → least_unpooled r ≡ None → (2 ^ 125 ≤ r.first) × (r.last < 2 ^ 126)
+unpooled r e = elim (cases_Bool (nat_lt r.first (2 ^ 125))) [
+  | inl low ↦ let h : ◌≡◌ {A = Option ℕ} (Some r.first) None = rw low at e in cc
+  | inr high ↦ elim (cases_Bool (nat_lt r.last (2 ^ 126))) [
+      | inl below ↦ (omega (arith, ltb-false r.first (2 ^ 125) high), ltb-true r.last (2 ^ 126) below)
+      | inr above ↦ let h : ◌≡◌ {A = Option ℕ} (Some (max r.first (2 ^ 126))) None = rw (high, above) at e in cc
+    ]
+]
 
-delegated_keeps : (day : ℕ) (r : Register) (len : ℕ) (handle : List ℕ) (start : Option ℕ) → HasPieces r
-    → start ≡ least_block r.pieces Ipv4 (block_size Ipv4 len) → HasPieces (session.delegated day r len handle start).register
-delegated_keeps day r len handle None h e = h
-delegated_keeps day r len handle (Some start) h e =
-    let within = found_within r.pieces start (block_size Ipv4 len) h (pow_pos (32 - len)) (sym e) in
-    painted_keeps r _ (block_of Ipv4 start len) _ h (record { space = refl; range = (omega arith, within) }) (λ free. cc)
+no_value : (space : Space) (value : Option ℕ) → outside_at space value ≡ None → value ≡ None
+no_value space None e = refl
+no_value space (Some n) e = cc
 
--- what a line is read as
-abbrev IsValidLine : Line → Type 0
-IsValidLine Nothing = Unit {0}
-IsValidLine Malformed = Unit {0}
-IsValidLine (Receive range) = IsIpv4Range range
-IsValidLine (Delegate len handle) = Unit {0}
+pooled_range : (space : Space) (r : PlainRange) → r.space ≡ space → outside_at r.space (least_outside_unicast space r) ≡ None → IsPoolRange r
+pooled_range Asn r is e = λ six. let apart : Asn ≡ Ipv6 = sym is ∙ six in cc
+pooled_range Ipv4 r is e = λ six. let apart : Ipv4 ≡ Ipv6 = sym is ∙ six in cc
+pooled_range Ipv6 r is e = λ six. unpooled r (no_value r.space (least_unpooled r) e)
 
-either_valid : (b : Bool) (x y : Line) → IsValidLine x → IsValidLine y → IsValidLine (cond b x y)
-either_valid true x y h k = h
-either_valid false x y h k = k
+received_keeps : (s : PlainSession) (range : PlainRange) (refusal : Option Refusal) → refusal ≡ receive_refusal s range → HasPieces s → IsRange range
+    → HasPieces (received s range refusal).session
+received_keeps s range None e h valid =
+    painted_keeps s s.handles (Receive range) range plain_card h valid
+    (pooled_range range.space range refl (none_of (outside_unicast range) _ (sym e))) (λ _. refl)
+received_keeps s range (Some refusal) e h valid = h
 
-received_valid : (block : List ℕ) (range : Option PlainRange) → range ≡ block_at block → IsValidLine (received range)
-received_valid block None e = tt
-received_valid block (Some range) e = block_range block range (sym e)
+size_pos : (space : Space) (amount : ℕ) → has_size space amount ≡ true → 0 < amount_size space amount
+size_pos Asn amount e = leb-true 1 amount (and_parts (nat_le 1 amount) (nat_le amount 1024) e).0
+size_pos Ipv4 amount e = pow_pos (32 - amount)
+size_pos Ipv6 amount e = pow_pos (128 - amount)
 
-receive_valid : (words : List (List ℕ)) → IsValidLine (receive_line words)
-receive_valid [] = tt
-receive_valid (block ∷ []) = received_valid block (block_at block) refl
-receive_valid (block ∷ next ∷ more) = tt
+delegated_card : (status : Delegation) (holder : Option ℕ) (day : ℕ) → IsCard (holder_card (status_of status) holder day 0)
+delegated_card Allocate holder day free = cc
+delegated_card Assign holder day free = cc
 
-delegated_valid : (handle : List ℕ) (len : Option ℕ) → IsValidLine (delegated handle len)
-delegated_valid handle None = tt
-delegated_valid handle (Some len) = either_valid (is_handle handle) (Delegate len handle) Malformed tt tt
+delegated_keeps : (s : PlainSession) (space : Space) (amount : ℕ) (status : Delegation) (handle : List ℕ) (start : Option ℕ) → HasPieces s
+    → has_size space amount ≡ true → start ≡ least_block (pieces_in s.pool space) space (amount_size space amount)
+    → HasPieces (delegated s space amount status handle start).session
+delegated_keeps s space amount status handle None h sized e = h
+delegated_keeps s space amount status handle (Some start) h sized e =
+    let size = amount_size space amount in
+    let pos = size_pos space amount sized in
+    let within = found_within space size pos (pieces_in s.pool space) start (h.each space) (sym e) in
+    let pooled = found_pooled space size pos (pieces_in s.pool space) start (h.each space) (sym e) in
+    painted_keeps s _ _ (range_from space start size) _ h (omega arith, within) pooled (delegated_card status _ _)
 
-delegate_valid : (words : List (List ℕ)) → IsValidLine (delegate_line words)
-delegate_valid [] = tt
-delegate_valid (a ∷ []) = tt
-delegate_valid (a ∷ b ∷ []) = tt
-delegate_valid (a ∷ b ∷ c ∷ []) = tt
-delegate_valid (a ∷ b ∷ c ∷ d ∷ []) = either_valid (bytes_eq a (codes "ipv4") && bytes_eq c (codes "allocated")) _ Malformed (delegated_valid d (amount_of b)) tt
-delegate_valid (a ∷ b ∷ c ∷ d ∷ e ∷ more) = tt
+range_is : (r : PlainRange) → is_range r ≡ true → IsRange r
+range_is r e =
+    let (order, within) = and_parts (nat_le r.first r.last) (nat_le r.last (top_of r.space)) e in
+    (leb-true r.first r.last order, leb-true r.last (top_of r.space) within)
 
-words_valid : (words : List (List ℕ)) → IsValidLine (line_of_words words)
-words_valid [] = tt
-words_valid (verb ∷ words) =
-    either_valid (is_comment verb) Nothing _ tt (either_valid (bytes_eq verb (codes "receive")) (receive_line words) _ (receive_valid words)
-    (either_valid (bytes_eq verb (codes "delegate")) (delegate_line words) Malformed (delegate_valid words) tt))
+request_keeps : (s : PlainSession) (request : ARequest) → HasPieces s → (is_request request ≡ true) × IsSizedRequest request
+    → HasPieces (requested s request).session
+request_keeps s (Receive range) h valid = received_keeps s range (receive_refusal s range) refl h (range_is range valid.0)
+request_keeps s (Delegate space amount status handle) h valid = delegated_keeps s space amount status handle _ h valid.1 refl
+request_keeps s (AddHolder holder) h valid = h
+request_keeps s (EditHolder holder) h valid = h
+request_keeps s (Reserve range) h valid = h
+request_keeps s (Unreserve range) h valid = h
+request_keeps s (SubAssign range handle) h valid = h
+request_keeps s (SubReturn range) h valid = h
+request_keeps s (Return range handle) h valid = h
+request_keeps s (Release range) h valid = h
+request_keeps s (Split at) h valid = h
+request_keeps s (Join at) h valid = h
+request_keeps s (Transfer range from to) h valid = h
+request_keeps s (SetReverse range servers) h valid = h
+request_keeps s (ClearReverse range) h valid = h
 
-line_valid : (text : List ℕ) → IsValidLine (line_of text)
-line_valid text = either_valid (nat_lt 1024 (length text)) Malformed _ tt (words_valid (words_of text))
-
-step_keeps : (day : ℕ) (r : Register) (line : Line) → HasPieces r → IsValidLine line → HasPieces (step_of day r line).register
-step_keeps day r Nothing h valid = h
-step_keeps day r Malformed h valid = h
-step_keeps day r (Receive range) h valid = received_keeps r range (overlap r.pieces range) h valid
-step_keeps day r (Delegate len handle) h valid = delegated_keeps day r len handle _ h refl
+step_keeps : (s : PlainSession) (line : Result Line Malformed) → HasPieces s → IfOk line IsValidLine → HasPieces (step_of s line).session
+step_keeps s (Err fault) h valid = h
+step_keeps s (Ok (Request request)) h valid = request_keeps s request h valid
+step_keeps s (Ok (Show n)) h valid = h
+step_keeps s (Ok Due) h valid = h
+step_keeps s (Ok (Day day)) h valid = h
+step_keeps s (Ok (By name)) h valid = h
+step_keeps s (Ok Nothing) h valid = h
 
 -- ---- the registers
 
-after_keeps : (day : ℕ) (r : Register) (lines : List (List ℕ)) → HasPieces r → HasPieces (register_after day r lines)
-after_keeps day r [] h = h
-after_keeps day r (line ∷ more) h = after_keeps day (answered day r line).register more (step_keeps day r (line_of line) h (line_valid line))
+after_keeps : (s : PlainSession) (lines : List (List ℕ)) → HasPieces s → HasPieces (session_after s lines)
+after_keeps s [] h = h
+after_keeps s (line ∷ more) h = after_keeps (answered s line).session more (step_keeps s (line_of line) h (line_valid line))
 
-no_pieces : ArePieces Ipv4 []
-no_pieces = record { rises = tt; settled = tt; each = tt }
+new_keeps : (day : ℕ) → HasPieces (new_session day)
+new_keeps day = record { each = λ space. elim space [ Asn ↦ none | Ipv4 ↦ none | Ipv6 ↦ none ] }
+  where
+    none : {space : Space} → ArePieces space []
+    none = record { rises = tt; settled = tt; each = tt }
 
-pub blocks_are_least : (day : ℕ) (script : List (List ℕ)) (size : ℕ) → 0 < size
-    → IsLeastBlock (register_after day empty_register script).pieces Ipv4 size (least_block (register_after day empty_register script).pieces Ipv4 size)
-blocks_are_least day script size pos = least_block_is_least Ipv4 _ size (after_keeps day empty_register script no_pieces) pos
+pub blocks_are_least : (day : ℕ) (script : List (List ℕ)) (space : Space) (size : ℕ) → 0 < size
+    → IsLeastBlock (pieces_in (session_after (new_session day) script).pool space) space size (least_block (pieces_in (session_after (new_session day) script).pool space) space size)
+blocks_are_least day script space size pos =
+    least_block_is_least space _ size ((after_keeps (new_session day) script (new_keeps day)).each space) pos
 
 pub overlaps_are_least : (day : ℕ) (script : List (List ℕ)) (range : PlainRange) → IsRange range
-    → IsLeastTaken (register_after day empty_register script).pieces range (overlap (register_after day empty_register script).pieces range)
-overlaps_are_least day script range valid = overlap_is_least Ipv4 _ range (after_keeps day empty_register script no_pieces) valid
+    → IsLeastTaken (pieces_in (session_after (new_session day) script).pool range.space) range (overlap (pieces_in (session_after (new_session day) script).pool range.space) range)
+overlaps_are_least day script range valid =
+    overlap_is_least range.space _ range ((after_keeps (new_session day) script (new_keeps day)).each range.space) valid

@@ -3,16 +3,16 @@ use Rattle.std.specs.Prelude.{◌≡◌, ℕ, List, ◌++◌, ⊤, Option, None,
 use Rattle.std.specs.Io.KnownBytes.{append_known, Keeps, IsAtEnd}
 use Rattle.registry_main.specs.declared.exit.Exit.{Exit}
 use Rattle.registry_main.specs.declared.exit.Exit.TheVariants.{Done}
-use Rattle.registry_main.specs.Session.{Register, replies_to, batch_text}
+use Rattle.registry_main.specs.Session.{PlainSession, replies_to, batch_text}
 
 -- what was written, and then the replies to the lines of a text
-abbrev pub with_replies : ℕ → Option (List ℕ) → Register → List ℕ → Option (List ℕ)
-with_replies day written r text = append_known written (replies_to day r text)
+abbrev pub with_replies : Option (List ℕ) → PlainSession → List ℕ → Option (List ℕ)
+with_replies written s text = append_known written (replies_to s text)
 
 -- the same for a text that goes on with what is left of the script
-abbrev pub with_all_replies : ℕ → Option (List ℕ) → Register → List ℕ → Option (List ℕ) → Option (List ℕ)
-with_all_replies day written r text None = None
-with_all_replies day written r text (Some left) = with_replies day written r (text ++ left)
+abbrev pub with_all_replies : Option (List ℕ) → PlainSession → List ℕ → Option (List ℕ) → Option (List ℕ)
+with_all_replies written s text None = None
+with_all_replies written s text (Some left) = with_replies written s (text ++ left)
 
 -- a known text begins with the known bytes
 abbrev pub BeginsWith : Option (List ℕ) → Option (List ℕ) → Type 0

@@ -1,9 +1,6 @@
-pub mod Words
-pub mod Ipv4Text
-pub mod Line
 pub mod Fitting
+pub mod Dates
 pub mod Holders
-pub mod Replies
 pub mod Session
 pub mod LineBuffer
 pub mod Batch

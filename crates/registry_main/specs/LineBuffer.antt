@@ -1,6 +1,6 @@
 -- The front of a line, as much of it as decides what it is answered.
 use Rattle.std.specs.Prelude.{◌≡◌, ℕ, false, ◌==◌, List, [], ◌∷◌, ◌++◌}
-use Rattle.registry_main.specs.Session.{Register, replies_to}
+use Rattle.registry_main.specs.Session.{PlainSession, replies_to}
 
 -- no line ends in the text
 abbrev pub HasNoNewline : List ℕ → Type 0
@@ -9,4 +9,4 @@ HasNoNewline (b ∷ bs) = ((b == 10) ≡ false) × HasNoNewline bs
 
 -- whatever comes behind it, the one text is answered as the other
 abbrev pub IsAnsweredAs : List ℕ → List ℕ → Type 0
-IsAnsweredAs text other = (day : ℕ) (r : Register) (tail : List ℕ) → replies_to day r (text ++ tail) ≡ replies_to day r (other ++ tail)
+IsAnsweredAs text other = (s : PlainSession) (tail : List ℕ) → replies_to s (text ++ tail) ≡ replies_to s (other ++ tail)

@@ -1,98 +1,195 @@
 -- What the lines of a script make of the register, and what each is answered.
-use Rattle.std.specs.Prelude.{ℕ, ◌+◌, min, nat_lt, ◌==◌, if◌then◌else◌, List, [], ◌∷◌, ◌++◌, length, Option, None, Some}
+use Rattle.std.specs.Prelude.{ℕ, ◌+◌, max, nat_lt, if◌then◌else◌, List, [], ◌∷◌, ◌++◌, length, Option, None, Some, Result, Ok, Err, codes, slice_get}
+use Rattle.std.specs.Option.{option_or, option_and_then}
 use Rattle.std.specs.Str.Lines.{lines}
-use Rattle.num_range.specs.declared.space.Space.TheVariants.{Ipv4}
+use Rattle.num_range.specs.declared.space.Space.{Space}
+use Rattle.num_range.specs.Number.{PlainNumber}
 use Rattle.num_range.specs.Range.{PlainRange}
-use Rattle.num_range.specs.Block.{block_size, block_of}
 use Rattle.reg_entry.specs.declared.card.Card.{Card}
-use Rattle.reg_entry.specs.declared.card.Status.TheVariants.{Allocated}
+use Rattle.reg_entry.specs.declared.entry.Reply.TheVariants.{Accepted, Refused}
 use Rattle.reg_entry.specs.declared.piece.Piece.{Piece}
-use Rattle.registry_main.specs.declared.refusal.Refusal.{Refusal}
-use Rattle.registry_main.specs.declared.refusal.Refusal.TheVariants as refusals
-use Rattle.reg_entry.specs.Card.{plain_card}
-use Rattle.reg_entry.specs.Pieces.{laid, overlap}
+use Rattle.reg_entry.specs.declared.refusal.Refusal.{Refusal}
+use Rattle.reg_entry.specs.declared.refusal.Refusal.TheVariants as refusals
+use Rattle.reg_entry.specs.declared.request.Delegation.{Delegation}
+use Rattle.reg_entry.specs.declared.request.Request.{Request as ARequest}
+use Rattle.reg_entry.specs.declared.request.Request.TheVariants.{Receive, Delegate}
 use Rattle.reg_entry.specs.Blocks.{least_block}
-use Rattle.registry_main.specs.declared.line.Line.{Line}
-use Rattle.registry_main.specs.declared.line.Line.TheVariants.{Nothing, Malformed, Receive, Delegate}
-use Rattle.registry_main.specs.declared.reply.Reply.{Reply}
-use Rattle.registry_main.specs.declared.reply.Reply.TheVariants.{Accepted, Refused}
+use Rattle.reg_entry.specs.Card.{plain_card}
+use Rattle.reg_entry.specs.Covers.{range_from, holder_card}
+use Rattle.reg_entry.specs.Days.{clamped_day}
+use Rattle.reg_entry.specs.Decision.{outside_unicast, overlap_at}
+use Rattle.reg_entry.specs.Entry.{PlainEntry}
+use Rattle.reg_entry.specs.Partition.{Partition, pieces_in, with_pieces, empty_partition, piece_count}
+use Rattle.reg_entry.specs.Pieces.{laid, overlap, piece_at}
+use Rattle.reg_entry.specs.Request.{status_of, amount_size}
+use Rattle.desk_lang.specs.declared.line.Line.{Line}
+use Rattle.desk_lang.specs.declared.line.Line.TheVariants.{Request, Show, Due, Day, By, Nothing}
+use Rattle.desk_lang.specs.declared.rest.Malformed.{Malformed}
+use Rattle.desk_lang.specs.Grammar.{line_of}
+use Rattle.desk_lang.specs.ReplyText.{reply_text, ReplyHasDate}
+use Rattle.desk_lang.specs.ShownText.{piece_text}
+use Rattle.registry_main.specs.declared.answer.Answer.{Answer}
+use Rattle.registry_main.specs.declared.answer.Answer.TheVariants.{Decided, Shown, Outside}
+use Rattle.registry_main.specs.Dates.{HasCardDates}
 use Rattle.registry_main.specs.Holders.{holder_number, with_handle}
-use Rattle.registry_main.specs.Line.{line_of}
-use Rattle.registry_main.specs.Replies.{answer_text}
 
--- the IPv4 pieces, the handles of the holders in the order of their numbers, and how many entries there are
-pub record Register : Type 0 where
-  pub pieces : List Piece
+-- ---- answers
+
+-- the line that answers
+abbrev pub answer_line : Answer → List ℕ
+answer_line (Decided reply) = reply_text reply ++ codes "\n"
+answer_line (Shown piece handle) = piece_text piece handle ++ codes "\n"
+answer_line Outside = codes "none\n"
+
+-- the days that the line tells can be written with a year of four digits
+abbrev pub HasDates : Answer → Type 0
+HasDates (Decided reply) = ReplyHasDate reply
+HasDates (Shown piece handle) = HasCardDates piece.card
+HasDates Outside = Unit {0}
+
+-- nothing where nothing was asked
+abbrev pub answer_text : Option Answer → List ℕ
+answer_text None = []
+answer_text (Some answer) = answer_line answer
+
+-- ---- the session
+
+-- the register that the lines have built: its pieces, the handles of its holders in the order of their numbers, how many
+-- entries there are, and the day of the last; and on which day which hostmaster asks
+pub record PlainSession : Type 0 where
+  pub pool : Partition
   pub handles : List (List ℕ)
   pub entries : ℕ
+  pub last_day : ℕ
+  pub day : ℕ
+  pub who : List ℕ
 
-abbrev pub empty_register : Register
-empty_register = record { pieces = []; handles = []; entries = 0 }
+-- the session over the empty register that begins on a clock's day
+abbrev pub new_session : ℕ → PlainSession
+new_session day = record {
+  pool = empty_partition;
+  handles = [];
+  entries = 0;
+  last_day = 0;
+  day = clamped_day day;
+  who = codes "local";
+}
 
--- the register after a line, and what the line is answered: nothing where it asks for nothing
+-- the session after a line, and what the line is answered: nothing where it asks for nothing
 pub record Step : Type 0 where
-  pub register : Register
-  pub reply : Option Reply
+  pub session : PlainSession
+  pub answer : Option Answer
 
 -- how many pieces there may be
 abbrev pub room : ℕ
 room = 262144
 
-abbrev pub refused : Register → Refusal → Step
-refused r refusal = record { register = r; reply = Some (Refused refusal) }
+abbrev pub refused : PlainSession → Refusal → Step
+refused s refusal = record { session = s; answer = Some (Decided (Refused refusal)) }
 
--- the refusal of so many pieces
-abbrev pub full : ℕ → Refusal
-full pieces = refusals.RegisterFull pieces room
+-- no entry is older than the one before it
+abbrev pub entry_day : PlainSession → ℕ
+entry_day s = max s.day s.last_day
+
+-- the next entry
+abbrev pub entry_of : PlainSession → ARequest → PlainRange → Card → PlainEntry
+entry_of s request range card = record {
+  seq = s.entries + 1;
+  day = entry_day s;
+  who = s.who;
+  request = request;
+  cover = Some range;
+  card = Some card;
+}
+
+-- the session after the next entry
+abbrev pub with_entry : PlainSession → Partition → List (List ℕ) → PlainSession
+with_entry s pool handles = record {
+  pool = pool;
+  handles = handles;
+  entries = s.entries + 1;
+  last_day = entry_day s;
+  day = s.day;
+  who = s.who;
+}
+
+-- the pool once the card was painted over the range
+abbrev pub painted_pool : PlainSession → PlainRange → Card → Partition
+painted_pool s range card = with_pieces s.pool range.space (laid (pieces_in s.pool range.space) range card)
 
 -- the next entry, which paints a card over a range, unless there were too many pieces then
-abbrev pub painted : Register → List (List ℕ) → PlainRange → Card → Step
-painted r handles range card =
-    let pieces = laid r.pieces range card in
-    if nat_lt room (length pieces)
-    then refused r (full (length pieces))
-    else record { register = record { pieces = pieces; handles = handles; entries = r.entries + 1 }; reply = Some (Accepted (r.entries + 1) range) }
+abbrev pub painted : PlainSession → List (List ℕ) → ARequest → PlainRange → Card → Step
+painted s handles request range card =
+    if nat_lt room (piece_count (painted_pool s range card))
+    then refused s (refusals.RegisterFull (piece_count (painted_pool s range card)) room)
+    else record {
+      session = with_entry s (painted_pool s range card) handles;
+      answer = Some (Decided (Accepted (entry_of s request range card)));
+    }
 
--- a block comes into the pool, which has none of its numbers yet
-abbrev pub received : Register → PlainRange → Option ℕ → Step
-received r range None = painted r r.handles range plain_card
-received r range (Some taken) = refused r (refusals.Overlap (record { space = Ipv4; value = taken }))
+-- why a range can't come into the pool: it isn't all global unicast, or the pool has some of it
+abbrev pub receive_refusal : PlainSession → PlainRange → Option Refusal
+receive_refusal s range =
+    option_or (outside_unicast range) (overlap_at range.space (overlap (pieces_in s.pool range.space) range))
+
+abbrev pub received : PlainSession → PlainRange → Option Refusal → Step
+received s range None = painted s s.handles (Receive range) range plain_card
+received s range (Some refusal) = refused s refusal
 
 -- the least block goes to the holder, who has a number from the first delegation on
-abbrev pub delegated : ℕ → Register → ℕ → List ℕ → Option ℕ → Step
-delegated day r len handle None = refused r refusals.NoBlock
-delegated day r len handle (Some start) =
-    painted r (with_handle r.handles handle) (block_of Ipv4 start len)
-    (record { status = Allocated; holder = Some (holder_number r.handles handle); day = day; until = 0 })
+abbrev pub delegated : PlainSession → Space → ℕ → Delegation → List ℕ → Option ℕ → Step
+delegated s space amount status handle None = refused s refusals.NoBlock
+delegated s space amount status handle (Some start) =
+    painted s (with_handle s.handles handle) (Delegate space amount status handle) (range_from space start (amount_size space amount))
+    (holder_card (status_of status) (Some (holder_number s.handles handle)) (entry_day s) 0)
 
-abbrev pub step_of : ℕ → Register → Line → Step
-step_of day r Nothing = record { register = r; reply = None }
-step_of day r Malformed = refused r (refusals.Malformed 1)
-step_of day r (Receive range) = received r range (overlap r.pieces range)
-step_of day r (Delegate len handle) = delegated day r len handle (least_block r.pieces Ipv4 (block_size Ipv4 len))
+-- requests of other kinds aren't decided here
+abbrev pub requested : PlainSession → ARequest → Step
+requested s (Receive range) = received s range (receive_refusal s range)
+requested s (Delegate space amount status handle) =
+    delegated s space amount status handle (least_block (pieces_in s.pool space) space (amount_size space amount))
+requested s request = refused s (refusals.Malformed 1)
 
--- a line on a day
-abbrev pub answered : ℕ → Register → List ℕ → Step
-answered day r line = step_of day r (line_of line)
+-- the piece, with its holder's handle
+abbrev pub shown : PlainSession → Option Piece → Answer
+shown s None = Outside
+shown s (Some piece) = Shown piece (option_and_then (slice_get s.handles) piece.card.holder)
 
--- the replies to lines, one after the other
-abbrev pub replies : ℕ → Register → List (List ℕ) → List ℕ
-replies day r [] = []
-replies day r (line ∷ more) = answer_text (answered day r line).reply ++ replies day (answered day r line).register more
+abbrev pub on_day : PlainSession → ℕ → PlainSession
+on_day s day = record { pool = s.pool; handles = s.handles; entries = s.entries; last_day = s.last_day; day = day; who = s.who }
 
--- the register after lines
-abbrev pub register_after : ℕ → Register → List (List ℕ) → Register
-register_after day r [] = r
-register_after day r (line ∷ more) = register_after day (answered day r line).register more
+abbrev pub by_name : PlainSession → List ℕ → PlainSession
+by_name s who = record { pool = s.pool; handles = s.handles; entries = s.entries; last_day = s.last_day; day = s.day; who = who }
 
--- the day of each entry: the clock's, within 1970-01-02 and 9999-12-31
-abbrev pub entry_day : ℕ → ℕ
-entry_day day = if day == 0 then 1 else min day 2932896
+abbrev pub silent : PlainSession → Step
+silent s = record { session = s; answer = None }
+
+abbrev pub step_of : PlainSession → Result Line Malformed → Step
+step_of s (Err fault) = refused s (refusals.Malformed fault.place)
+step_of s (Ok (Request request)) = requested s request
+step_of s (Ok (Show n)) = record { session = s; answer = Some (shown s (piece_at (pieces_in s.pool n.space) n.value)) }
+step_of s (Ok Due) = refused s (refusals.Malformed 1)
+step_of s (Ok (Day day)) = silent (on_day s day)
+step_of s (Ok (By name)) = silent (by_name s name)
+step_of s (Ok Nothing) = silent s
+
+abbrev pub answered : PlainSession → List ℕ → Step
+answered s line = step_of s (line_of line)
+
+-- the answers to lines, one after the other
+abbrev pub replies : PlainSession → List (List ℕ) → List ℕ
+replies s [] = []
+replies s (line ∷ more) = answer_text (answered s line).answer ++ replies (answered s line).session more
+
+-- the session after lines
+abbrev pub session_after : PlainSession → List (List ℕ) → PlainSession
+session_after s [] = s
+session_after s (line ∷ more) = session_after (answered s line).session more
+
+-- the answers to the lines of a text
+abbrev pub replies_to : PlainSession → List ℕ → List ℕ
+replies_to s text = replies s (lines text)
 
 -- what is written for a script on a clock's day
 abbrev pub batch_text : ℕ → List ℕ → List ℕ
-batch_text day script = replies (entry_day day) empty_register (lines script)
-
--- the replies to the lines of a text
-abbrev pub replies_to : ℕ → Register → List ℕ → List ℕ
-replies_to day r text = replies day r (lines text)
+batch_text day script = replies_to (new_session day) script

@@ -4,17 +4,17 @@ ghost use Rattle.std.specs.Io.KnownBytes.{Appends, Keeps, IsAtEnd};
 ghost use Rattle.std.specs.Str.Lines.{strip_carriage_return};
 ghost use Rattle.link_face.specs.Bytes.{AppendsPrefix};
 ghost use Rattle.link_face.specs.Faults.{HasRisen};
-ghost use Rattle.registry_main.specs.Session.{answered};
-ghost use Rattle.registry_main.specs.Replies.{answer_text};
+ghost use Rattle.registry_main.specs.Session.{answered, answer_text};
 ghost use Rattle.registry_main.specs.LineBuffer.{HasNoNewline};
 ghost use Rattle.registry_main.specs.Batch.{with_replies, with_all_replies, BeginsWith};
 ghost use Rattle.registry_main.specs.declared.batch.Stop.TheVariants.{Read, Write};
 
 use crate::line_buffer::LineBuffer;
 use crate::session::Session;
-use crate::words::parted_at;
+use arrayvec::ArrayVec;
+use desk_lang::parted_at;
 use link_face::{Sink, Source};
-use std::alloc::{AllocError, Global};
+use std::alloc::AllocError;
 
 /// How many bytes are read at once.
 const PIECE: usize = 8192;
@@ -50,26 +50,25 @@ fn without_return(line: &[u8]) -> &[u8]
 
 /// Answers one line, which is handed in without its line end.
 fn answer_line<K: Sink>(
-    alloc: Global,
     session: &mut Session,
-    day: u32,
     line: &[u8],
     out: &mut K,
 ) -> Result<(), Stop>
     requires { session.old.entries + 1 < 2 ^ 64 }
-    ensures ok { OnOk result (Appends (K.written out.old) (K.written out.new) (answer_text (answered day session.old line.now).reply)) }
-    ensures register { OnOk result (session.new ≡ (answered day session.old line.now).register) }
+    ensures ok { OnOk result (Appends (K.written out.old) (K.written out.new) (answer_text (answered session.old line.now).answer)) }
+    ensures session { OnOk result (session.new ≡ (answered session.old line.now).session) }
     ensures entries { session.new.entries ≤ session.old.entries + 1 }
-    ensures err { OnErr result (AppendsPrefix (K.written out.old) (K.written out.new) (answer_text (answered day session.old line.now).reply)) }
+    ensures err { OnErr result (AppendsPrefix (K.written out.old) (K.written out.new) (answer_text (answered session.old line.now).answer)) }
     ensures faults { K.faults out.old ≤ K.faults out.new }
     ensures write { result ≡ Err Write → HasRisen (K.faults out.old) (K.faults out.new) }
     ensures no_read { result ≢ Err Read }
 {
-    let Some(reply) = session.answer(day, line)? else {
+    let Some(answer) = session.answer(line)? else {
         return Ok(());
     };
-    let text = format!(in alloc; "{reply}")?;
-    match out.write(text.as_bytes()) {
+    let mut text = ArrayVec::new();
+    answer.write(&mut text);
+    match out.write(text.as_slice()) {
         Ok(()) => Ok(()),
         Err(_) => Err(Stop::Write),
     }
@@ -77,24 +76,22 @@ fn answer_line<K: Sink>(
 
 /// Answers the line that is kept, whose end has come, and begins the next.
 fn end_line<K: Sink>(
-    alloc: Global,
     session: &mut Session,
-    day: u32,
     line: &mut LineBuffer,
     out: &mut K,
 ) -> Result<(), Stop>
     requires { session.old.entries + 1 < 2 ^ 64 }
     ensures ok { OnOk result ((tail : List ℕ) →
-        Keeps (with_replies day (K.written out.old) session.old (line.old ++ 10 ∷ tail)) (with_replies day (K.written out.new) session.new tail)) }
+        Keeps (with_replies (K.written out.old) session.old (line.old ++ 10 ∷ tail)) (with_replies (K.written out.new) session.new tail)) }
     ensures empty { OnOk result (line.new ≡ []) }
     ensures entries { session.new.entries ≤ session.old.entries + 1 }
     ensures err { OnErr result ((tail : List ℕ) →
-        BeginsWith (with_replies day (K.written out.old) session.old (line.old ++ 10 ∷ tail)) (K.written out.new)) }
+        BeginsWith (with_replies (K.written out.old) session.old (line.old ++ 10 ∷ tail)) (K.written out.new)) }
     ensures faults { K.faults out.old ≤ K.faults out.new }
     ensures write { result ≡ Err Write → HasRisen (K.faults out.old) (K.faults out.new) }
     ensures no_read { result ≢ Err Read }
 {
-    answer_line(alloc, session, day, without_return(line.bytes()), out)?;
+    answer_line(session, without_return(line.bytes()), out)?;
     line.clear();
     Ok(())
 }
@@ -109,19 +106,17 @@ fn part_at_newline(text: &[u8]) -> Option<(&[u8], &[u8])>
 
 /// Answers each line that ends in a piece of the script, and keeps what comes behind the last line end.
 fn answer_lines<K: Sink>(
-    alloc: Global,
     session: &mut Session,
-    day: u32,
     line: &mut LineBuffer,
     piece: &[u8],
     out: &mut K,
 ) -> Result<(), Stop>
     requires { session.old.entries + length line.old + length piece.now < 2 ^ 64 }
     ensures ok { OnOk result ((tail : List ℕ) →
-        Keeps (with_replies day (K.written out.old) session.old (line.old ++ (piece.now ++ tail))) (with_replies day (K.written out.new) session.new (line.new ++ tail))) }
+        Keeps (with_replies (K.written out.old) session.old (line.old ++ (piece.now ++ tail))) (with_replies (K.written out.new) session.new (line.new ++ tail))) }
     ensures entries { OnOk result (session.new.entries + length line.new ≤ session.old.entries + length line.old + length piece.now) }
     ensures err { OnErr result ((tail : List ℕ) →
-        BeginsWith (with_replies day (K.written out.old) session.old (line.old ++ (piece.now ++ tail))) (K.written out.new)) }
+        BeginsWith (with_replies (K.written out.old) session.old (line.old ++ (piece.now ++ tail))) (K.written out.new)) }
     ensures faults { K.faults out.old ≤ K.faults out.new }
     ensures write { result ≡ Err Write → HasRisen (K.faults out.old) (K.faults out.new) }
     ensures no_read { result ≢ Err Read }
@@ -129,7 +124,7 @@ fn answer_lines<K: Sink>(
     let mut rest = piece;
     'lines: while let Some((front, behind)) = part_at_newline(rest) {
         line.extend(front);
-        end_line(alloc, session, day, line, out)?;
+        end_line(session, line, out)?;
         rest = behind;
     }
     line.extend(rest);
@@ -138,15 +133,13 @@ fn answer_lines<K: Sink>(
 
 /// Answers the last line, where it has no line end.
 fn end_script<K: Sink>(
-    alloc: Global,
     session: &mut Session,
-    day: u32,
     line: &LineBuffer,
     out: &mut K,
 ) -> Result<(), Stop>
     requires { session.old.entries + length line.now < 2 ^ 64 }
-    ensures ok { OnOk result (Keeps (with_replies day (K.written out.old) session.old line.now) (K.written out.new)) }
-    ensures err { OnErr result (BeginsWith (with_replies day (K.written out.old) session.old line.now) (K.written out.new)) }
+    ensures ok { OnOk result (Keeps (with_replies (K.written out.old) session.old line.now) (K.written out.new)) }
+    ensures err { OnErr result (BeginsWith (with_replies (K.written out.old) session.old line.now) (K.written out.new)) }
     ensures faults { K.faults out.old ≤ K.faults out.new }
     ensures write { result ≡ Err Write → HasRisen (K.faults out.old) (K.faults out.new) }
     ensures no_read { result ≢ Err Read }
@@ -155,21 +148,19 @@ fn end_script<K: Sink>(
     if text.is_empty() {
         return Ok(());
     }
-    answer_line(alloc, session, day, text, out)
+    answer_line(session, text, out)
 }
 
 /// Answers a script up to its end. The replies to the lines that have come are written before the next read.
 pub fn answer_script<T: Source, K: Sink>(
-    alloc: Global,
     session: &mut Session,
-    day: u32,
     script: &mut T,
     out: &mut K,
 ) -> Result<(), Stop>
     requires { session.old.entries ≡ 0 }
-    ensures ok { OnOk result (Keeps (with_all_replies day (K.written out.old) session.old [] (T.left script.old)) (K.written out.new)) }
+    ensures ok { OnOk result (Keeps (with_all_replies (K.written out.old) session.old [] (T.left script.old)) (K.written out.new)) }
     ensures end { OnOk result (IsAtEnd (T.left script.new)) }
-    ensures err { OnErr result (BeginsWith (with_all_replies day (K.written out.old) session.old [] (T.left script.old)) (K.written out.new)) }
+    ensures err { OnErr result (BeginsWith (with_all_replies (K.written out.old) session.old [] (T.left script.old)) (K.written out.new)) }
     ensures read { result ≡ Err Read → HasRisen (T.faults script.old) (T.faults script.new) }
     ensures write { result ≡ Err Write → HasRisen (K.faults out.old) (K.faults out.new) }
 {
@@ -179,8 +170,8 @@ pub fn answer_script<T: Source, K: Sink>(
         match script.read(&mut piece) {
             Err(_) => return Err(Stop::Read),
             Ok(0) => break,
-            Ok(count) => answer_lines(alloc, session, day, &mut line, &piece[..count], out)?,
+            Ok(count) => answer_lines(session, &mut line, &piece[..count], out)?,
         }
     }
-    end_script(alloc, session, day, &line, out)
+    end_script(session, &line, out)
 }

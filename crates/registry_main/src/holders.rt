@@ -1,5 +1,5 @@
 //! Holders, by their numbers and by their handles.
-ghost use Rattle.std.specs.Prelude.{◌≡◌, ◌∷◌, ◌++◌, [], None, length, IfOk, OnOk, OnErr};
+ghost use Rattle.std.specs.Prelude.{◌≡◌, ◌∷◌, ◌++◌, [], None, length, slice_get, IfOk, OnOk, OnErr};
 ghost use Rattle.registry_main.specs.Holders.{number_among, holder_number, with_handle};
 
 use reg_entry::Handle;
@@ -44,6 +44,13 @@ impl Holders {
         ensures { result ≡ number_among self.now handle.now }
     {
         self.numbers.get(handle).copied()
+    }
+
+    /// The handle of the holder with this number.
+    pub fn handle(&self, number: u32) -> Option<Handle>
+        ensures { result ≡ slice_get self.now number }
+    {
+        self.handles.get(number as usize).copied()
     }
 
     /// Adds a holder under a handle that none has, and gives its number. After an error all is as before.

@@ -1,11 +1,12 @@
 //! The search for the block that a delegation takes.
 ghost use Rattle.std.specs.Prelude.{◌≡◌, ◌≤◌, ◌<◌, ◌+◌, ◌^◌, ◌%◌, None, Some, true, false, IfSome, MatchOption, ◌-◌};
 ghost use Rattle.num_range.specs.Space.{top_of};
-ghost use Rattle.reg_entry.specs.Pieces.{ArePieces, IsInOnePieceOrNone};
-ghost use Rattle.num_range.specs.declared.space.Space.TheVariants.{Ipv4};
-ghost use Rattle.reg_entry.specs.Blocks.{rounded_up, least_block};
+ghost use Rattle.reg_entry.specs.Pieces.{ArePieces, IsInOnePieceOrNone, IsPoolRange};
+ghost use Rattle.reg_entry.specs.Covers.{range_from};
+ghost use Rattle.reg_entry.specs.Blocks.{alignment, rounded_up, least_block};
 ghost use Rattle.registry_main.specs.Fitting.{has_room};
 
+use num_range::Space;
 use piece_book::PieceWalk;
 use reg_entry::Piece;
 
@@ -20,11 +21,22 @@ fn gap(n: u128, size: u128) -> u128
     if past == 0 { 0 } else { size - past }
 }
 
+/// A block of addresses starts at a multiple of its size (RFC 4632 3.1); AS numbers start anywhere.
+fn alignment(space: Space, size: u128) -> u128
+    ensures { result ≡ alignment space size }
+{
+    match space {
+        Space::Asn => 1,
+        Space::Ipv4 | Space::Ipv6 => size,
+    }
+}
+
 /// The first aligned start in an available piece that has room for the block behind it.
-fn start_within(piece: &Piece, size: u128) -> Option<u128>
+fn start_within(piece: &Piece, space: Space, size: u128) -> Option<u128>
     requires least { 0 < size }
-    requires most { size ≤ 2 ^ 32 }
-    ensures { MatchOption result (has_room piece.now size ≡ false) (λ start. (has_room piece.now size ≡ true) × (start ≡ rounded_up piece.now.range.first size)) }
+    requires most { size ≤ 2 ^ 125 }
+    ensures { MatchOption result (has_room piece.now space size ≡ false)
+        (λ start. (has_room piece.now space size ≡ true) × (start ≡ rounded_up piece.now.range.first (alignment space size))) }
 {
     if !piece.card.status.is_available() {
         return None;
@@ -34,7 +46,7 @@ fn start_within(piece: &Piece, size: u128) -> Option<u128>
     if behind < size - 1 {
         return None;
     }
-    let gap = gap(first, size);
+    let gap = gap(first, alignment(space, size));
     if behind < gap + (size - 1) {
         return None;
     }
@@ -43,17 +55,18 @@ fn start_within(piece: &Piece, size: u128) -> Option<u128>
 
 /// The start of the least aligned block of a size, all of whose numbers are available. The search goes over the pieces
 /// once, up to the one in which the block lies.
-#[tactic(auto, using(crate::proofs::FoundBlock::found_within, crate::proofs::FoundBlock::found_in_one))]
-pub fn least_block(pieces: PieceWalk<'_>, size: u128) -> Option<u128>
-    requires valid { ArePieces Ipv4 pieces }
+#[tactic(auto, using(crate::proofs::FoundBlock::found_within, crate::proofs::FoundBlock::found_in_one, crate::proofs::FoundBlock::found_pooled))]
+pub fn least_block(pieces: PieceWalk<'_>, space: Space, size: u128) -> Option<u128>
+    requires valid { ArePieces space pieces }
     requires least { 0 < size }
-    requires most { size ≤ 2 ^ 32 }
-    ensures block { result ≡ least_block pieces.entry Ipv4 size }
-    ensures within { IfSome result (λ start. start + (size - 1) ≤ top_of Ipv4) }
-    ensures one { IfSome result (λ start. IsInOnePieceOrNone pieces.entry (record { space = Ipv4; first = start; last = start + (size - 1) })) }
+    requires most { size ≤ 2 ^ 125 }
+    ensures block { result ≡ least_block pieces.entry space size }
+    ensures within { IfSome result (λ start. start + (size - 1) ≤ top_of space) }
+    ensures one { IfSome result (λ start. IsInOnePieceOrNone pieces.entry (range_from space start size)) }
+    ensures pooled { IfSome result (λ start. IsPoolRange (range_from space start size)) }
 {
     for piece in pieces {
-        let start = start_within(&piece, size);
+        let start = start_within(&piece, space, size);
         if start.is_some() {
             return start;
         }

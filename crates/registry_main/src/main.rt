@@ -1,19 +1,16 @@
 //! The register's program: `registry_main batch` answers a script.
 #![tactic(auto)]
 
+mod answer;
 mod batch;
 mod exit;
 mod holders;
-mod ipv4_text;
 mod laws;
 mod least_block;
-mod line;
 mod line_buffer;
-mod refusal;
-mod reply;
 mod run;
 mod session;
-mod words;
+mod unicast;
 
 use exit::Exit;
 use link_face::{InSource, OutSink, SystemDay};

@@ -2,11 +2,12 @@
 ghost use Rattle.std.specs.Prelude.{◌≡◌, ◌≢◌, ◌<◌, ◌↔◌, ℕ, List, [], ◌∷◌, IsTrue, map, codes};
 ghost use Rattle.std.specs.String.{string_bytes};
 ghost use Rattle.num_range.specs.Range.{PlainRange, IsRange};
-ghost use Rattle.num_range.specs.declared.space.Space.TheVariants.{Ipv4};
+ghost use Rattle.num_range.specs.declared.space.Space.{Space};
+ghost use Rattle.reg_entry.specs.Partition.{pieces_in};
 ghost use Rattle.reg_entry.specs.Pieces.{overlap, IsLeastTaken};
 ghost use Rattle.reg_entry.specs.Blocks.{least_block, IsLeastBlock};
 ghost use Rattle.link_face.specs.Faults.{HasRisen};
-ghost use Rattle.registry_main.specs.Session.{empty_register, entry_day, register_after};
+ghost use Rattle.registry_main.specs.Session.{new_session, session_after};
 ghost use Rattle.registry_main.specs.Batch.{IsAnswered};
 ghost use Rattle.registry_main.specs.declared.exit.Exit.TheVariants.{Usage, ReadFault, WriteFault};
 
@@ -15,16 +16,6 @@ use crate::exit::Exit;
 use crate::laws::answers_are_least;
 use crate::session::Session;
 use link_face::{Clock, Sink, Source};
-
-/// The greatest day that the register knows, 9999-12-31.
-const LAST_DAY: u32 = 2_932_896;
-
-/// The day of the entries, on a day of the clock.
-fn entry_day(day: u32) -> u32
-    ensures { result ≡ entry_day day }
-{
-    if day == 0 { 1 } else { day.min(LAST_DAY) }
-}
 
 fn is_batch(words: &[String]) -> bool
     ensures { IsTrue result ↔ (map string_bytes words.now ≡ codes "batch" ∷ []) }
@@ -54,12 +45,12 @@ pub fn run<R: AllocGlobal, T: Source, K: Sink, C: Clock>(
 
     // In every register that a script builds, a delegation takes the least free block, aligned and all of it available,
     // and an overlap is told by the least number that is taken.
-    ensures least { (day : ℕ) (script : List (List ℕ)) (size : ℕ) → 0 < size →
-        IsLeastBlock (register_after day empty_register script).pieces Ipv4 size
-        (least_block (register_after day empty_register script).pieces Ipv4 size) }
+    ensures least { (day : ℕ) (script : List (List ℕ)) (space : Space) (size : ℕ) → 0 < size →
+        IsLeastBlock (pieces_in (session_after (new_session day) script).pool space) space size
+        (least_block (pieces_in (session_after (new_session day) script).pool space) space size) }
     ensures taken { (day : ℕ) (script : List (List ℕ)) (range : PlainRange) → IsRange range →
-        IsLeastTaken (register_after day empty_register script).pieces range
-        (overlap (register_after day empty_register script).pieces range) }
+        IsLeastTaken (pieces_in (session_after (new_session day) script).pool range.space) range
+        (overlap (pieces_in (session_after (new_session day) script).pool range.space) range) }
 
     // A fault is answered only where the outside failed in this run.
     ensures read_fault { result ≡ ReadFault → HasRisen (T.faults script.old) (T.faults script.new) }
@@ -70,11 +61,10 @@ pub fn run<R: AllocGlobal, T: Source, K: Sink, C: Clock>(
     if !is_batch(words) {
         return Exit::Usage;
     }
-    let day = entry_day(clock.day());
-    let Ok(mut session) = Session::new(rt.alloc()) else {
+    let Ok(mut session) = Session::new(rt.alloc(), clock.day()) else {
         return Exit::NoMemory;
     };
-    match answer_script(rt.alloc(), &mut session, day, script, out) {
+    match answer_script(&mut session, script, out) {
         Ok(()) => Exit::Done,
         Err(Stop::Read) => Exit::ReadFault,
         Err(Stop::Write) => Exit::WriteFault,

@@ -1,66 +1,104 @@
-//! The register that the lines of a script build, line by line.
-ghost use Rattle.std.specs.Prelude.{◌≡◌, ◌≤◌, ◌<◌, ◌+◌, ◌^◌, None, Some, Ok, IfOk, IfSome, IfErr, OnOk, OnErr, length};
-ghost use Rattle.std.specs.Option.{option_map};
-ghost use Rattle.num_range.specs.declared.space.Space.TheVariants.{Ipv4};
-ghost use Rattle.num_range.specs.Block.{block_size, block_of};
+//! The session of a script: the register that its lines build, line by line.
+ghost use Rattle.std.specs.Prelude.{◌≡◌, ◌≤◌, ◌<◌, ◌+◌, ◌^◌, true, None, Some, Ok, IfOk, IfSome, IfNone, IfErr, OnOk, OnErr};
+ghost use Rattle.std.specs.Option.{option_map, option_and_then};
+ghost use Rattle.num_range.specs.Range.{PlainRange};
 ghost use Rattle.reg_entry.specs.declared.card.Card.{Card};
-ghost use Rattle.reg_entry.specs.Pieces.{overlap, laid, IsCard, IsInOnePieceOrNone};
+ghost use Rattle.reg_entry.specs.declared.entry.Reply.TheVariants.{Accepted, Refused};
+ghost use Rattle.reg_entry.specs.declared.refusal.Refusal.TheVariants.{RegisterFull};
+ghost use Rattle.reg_entry.specs.declared.request.Request.TheVariants.{Receive, Delegate};
 ghost use Rattle.reg_entry.specs.Blocks.{least_block};
-ghost use Rattle.registry_main.specs.declared.reply.Reply.TheVariants.{Accepted};
-ghost use Rattle.registry_main.specs.Session.{empty_register, received, delegated, answered, room, full};
+ghost use Rattle.reg_entry.specs.Covers.{range_from};
+ghost use Rattle.reg_entry.specs.Days.{last_date, clamped_day};
+ghost use Rattle.reg_entry.specs.Partition.{pieces_in, piece_count};
+ghost use Rattle.reg_entry.specs.Pieces.{piece_at, IsCard, IsInOnePieceOrNone, IsPoolRange};
+ghost use Rattle.reg_entry.specs.Request.{amount_size, has_size};
+ghost use Rattle.desk_lang.specs.Grammar.{IsSizedRequest};
+ghost use Rattle.registry_main.specs.declared.answer.Answer.TheVariants.{Decided};
+ghost use Rattle.registry_main.specs.Dates.{HasCardDates};
+ghost use Rattle.registry_main.specs.Session.{new_session, HasDates, room, entry_day, entry_of, with_entry, painted_pool, receive_refusal, received, delegated, requested, shown, answered};
 
+use crate::answer::Answer;
 use crate::holders::Holders;
 use crate::least_block::least_block;
-use crate::line::{Line, read_line};
-use crate::refusal::Refusal;
-use crate::reply::Reply;
-use num_range::{Range, Space};
+use crate::unicast::least_outside_unicast;
+use desk_lang::{Line, read_line};
+use num_range::{Number, Range, Space};
 use piece_book::PieceBook;
-use reg_entry::{Card, Handle, Status};
+use reg_entry::{Card, Delegation, Entry, Handle, Name, Refusal, Reply, Request, Status};
 use std::alloc::{AllocError, Global};
 use std::marker::Model;
 
 /// How many pieces the register has room for.
 const ROOM: u32 = 262144;
 
-/// The register of a script so far.
+/// The greatest day that the register knows, 9999-12-31.
+const LAST_DAY: u32 = 2_932_896;
+
+/// The register of a script so far, and who asks on which day.
 #[derive(Drop)]
 pub struct Session {
     book: PieceBook,
     holders: Holders,
     entries: u64,
+    /// The day of the last entry, or 0 where there is none.
+    last_day: u32,
+    day: u32,
+    who: Name,
 }
 
 impl Model for Session {
-    ghost use Rattle.std.specs.Prelude.{◌≡◌, []};
-    ghost use Rattle.registry_main.specs.Session.{Register, room};
+    ghost use Rattle.std.specs.Prelude.{◌≡◌, ◌≤◌};
+    ghost use Rattle.reg_entry.specs.Days.{last_date};
+    ghost use Rattle.registry_main.specs.Dates.{PoolHasDates};
+    ghost use Rattle.registry_main.specs.Session.{PlainSession, room};
 
-    ghost Value = { Register };
+    ghost Value = { PlainSession };
 
-    ghost view = { λ s. record { pieces = s.book.partition.ipv4; handles = s.holders; entries = s.entries } };
+    ghost view = { λ s. record { pool = s.book.partition; handles = s.holders; entries = s.entries; last_day = s.last_day; day = s.day; who = s.who } };
 
-    // Every piece is of IPv4.
-    ghost invariant = { λ s. (s.book.room ≡ room) × (s.book.partition.asn ≡ []) × (s.book.partition.ipv6 ≡ []) };
+    ghost invariant = { λ s. (s.book.room ≡ room) × PoolHasDates s.book.partition × (s.last_day ≤ last_date) × (s.day ≤ last_date) };
+}
+
+/// A clock's day as the register takes it: from 1970-01-02 to 9999-12-31.
+fn clamped_day(day: u32) -> u32
+    ensures { result ≡ clamped_day day }
+{
+    day.clamp(1, LAST_DAY)
+}
+
+/// How many numbers an amount asks for.
+fn amount_size(space: Space, amount: u32) -> u128
+    requires { has_size space amount ≡ true }
+    ensures size { result ≡ amount_size space amount }
+    ensures bounds { (1 ≤ result) × (result ≤ 2 ^ 125) }
+{
+    match space {
+        Space::Asn => u128::from(amount),
+        Space::Ipv4 => 1 << (32 - amount),
+        Space::Ipv6 => 1 << (128 - amount),
+    }
 }
 
 impl Session {
-    /// The empty register.
-    pub fn new(alloc: Global) -> Result<Session, AllocError>
-        ensures { IfOk result (λ session. session ≡ empty_register) }
+    /// The empty register, on a clock's day. The hostmaster `local` asks.
+    pub fn new(alloc: Global, day: u32) -> Result<Session, AllocError>
+        ensures { IfOk result (λ session. session ≡ new_session day) }
     {
         Ok(Session {
             book: PieceBook::with_room(alloc, ROOM)?,
             holders: Holders::new(alloc),
             entries: 0,
+            last_day: 0,
+            day: clamped_day(day),
+            who: Name::read(b"local").unwrap(),
         })
     }
 
     /// Tests that there is room for the pieces that there would be with a card of the status over the range.
     fn check_room(&self, range: &Range, status: Status) -> Result<(), Refusal>
-        requires { range.now.space ≡ Ipv4 }
-        ensures fits { OnOk result ((c : Card) → c.status ≡ status → length (laid self.now.pieces range.now c) ≤ room) }
+        ensures fits { OnOk result ((c : Card) → c.status ≡ status → piece_count (painted_pool self.now range.now c) ≤ room) }
         ensures full { IfErr result (λ refusal. (c : Card) → c.status ≡ status
-            → (room < length (laid self.now.pieces range.now c)) × (refusal ≡ full (length (laid self.now.pieces range.now c)))) }
+            → (room < piece_count (painted_pool self.now range.now c)) × (refusal ≡ RegisterFull (piece_count (painted_pool self.now range.now c)) room)) }
     {
         let pieces = self.book.pieces_after(range, status);
         if pieces > ROOM {
@@ -69,94 +107,169 @@ impl Session {
         Ok(())
     }
 
-    /// Paints the card over the range as the next entry, and gives the entry's number.
-    fn enter(&mut self, range: &Range, card: &Card) -> Reply
-        requires space { range.now.space ≡ Ipv4 }
-        requires one { IsInOnePieceOrNone self.old.pieces range.now }
-        requires plain { IsCard card.now }
-        requires room { length (laid self.old.pieces range.now card.now) ≤ room }
-        requires number { self.old.entries + 1 < 2 ^ 64 }
-        ensures register { self.new ≡ record { pieces = laid self.old.pieces range.now card.now; handles = self.old.handles; entries = self.old.entries + 1 } }
-        ensures reply { result ≡ Accepted (self.old.entries + 1) range.now }
+    /// The day of the next entry: no entry is older than the one before it.
+    fn entry_day(&self) -> u32
+        ensures day { result ≡ entry_day self.now }
+        ensures date { result ≤ last_date }
     {
+        self.day.max(self.last_day)
+    }
+
+    /// Paints the card over the range as the next entry, and answers with the entry.
+    fn enter(&mut self, request: &Request, range: &Range, card: &Card) -> Answer
+        requires one { IsInOnePieceOrNone (pieces_in self.old.pool range.now.space) range.now }
+        requires pooled { IsPoolRange range.now }
+        requires plain { IsCard card.now }
+        requires dates { HasCardDates card.now }
+        requires room { piece_count (painted_pool self.old range.now card.now) ≤ room }
+        requires number { self.old.entries + 1 < 2 ^ 64 }
+        ensures session { self.new ≡ with_entry self.old (painted_pool self.old range.now card.now) self.old.handles }
+        ensures answer { result ≡ Decided (Accepted (entry_of self.old request.now range.now card.now)) }
+    {
+        let day = self.entry_day();
         self.book.lay(range, card);
         self.entries += 1;
-        Reply::Accepted(self.entries, *range)
+        self.last_day = day;
+        Answer::Decided(Reply::Accepted(Entry {
+            seq: self.entries,
+            day,
+            who: self.who,
+            request: *request,
+            cover: Some(*range),
+            card: Some(*card),
+        }))
     }
 
-    /// Receives a block into the pool.
-    fn receive(&mut self, range: &Range) -> Reply
-        requires space { range.now.space ≡ Ipv4 }
-        requires number { self.old.entries + 1 < 2 ^ 64 }
-        ensures { received self.old range.now (overlap self.old.pieces range.now) ≡ record { register = self.new; reply = Some result } }
+    /// Why a range can't come into the pool.
+    fn receive_refusal(&self, range: &Range) -> Option<Refusal>
+        ensures refusal { result ≡ receive_refusal self.now range.now }
+        ensures dates { IfSome result (λ refusal. HasDates (Decided (Refused refusal))) }
+        ensures free { IfNone result (IsPoolRange range.now × IsInOnePieceOrNone (pieces_in self.now.pool range.now.space) range.now) }
     {
-        if let Some(number) = self.book.overlap(range) {
-            return Reply::Refused(Refusal::Overlap { number });
+        if let Some(value) = least_outside_unicast(range) {
+            let number = Number::of(range.space(), value);
+            return Some(Refusal::OutsidePool { number });
+        }
+        let number = self.book.overlap(range)?;
+        Some(Refusal::Overlap { number })
+    }
+
+    /// Receives a range into the pool.
+    fn receive(&mut self, request: &Request, range: &Range) -> Answer
+        requires request { request.now ≡ Receive range.now }
+        requires number { self.old.entries + 1 < 2 ^ 64 }
+        ensures answer { received self.old range.now (receive_refusal self.old range.now) ≡ record { session = self.new; answer = Some result } }
+        ensures dates { HasDates result }
+    {
+        if let Some(refusal) = self.receive_refusal(range) {
+            return Answer::Decided(Reply::Refused(refusal));
         }
         match self.check_room(range, Status::Available) {
-            Ok(()) => self.enter(range, &Card::plain()),
-            Err(refusal) => Reply::Refused(refusal),
+            Ok(()) => self.enter(request, range, &Card::plain()),
+            Err(refusal) => Answer::Decided(Reply::Refused(refusal)),
         }
     }
 
-    /// The least available block of a prefix length.
-    fn find_block(&self, len: u32) -> Option<Range>
-        requires { len ≤ 32 }
-        ensures block { option_map (λ range. range.first) result ≡ least_block self.now.pieces Ipv4 (block_size Ipv4 len) }
-        ensures range { IfSome result (λ range. range ≡ block_of Ipv4 range.first len) }
-        ensures one { IfSome result (λ range. IsInOnePieceOrNone self.now.pieces range) }
+    /// The least available block of a size.
+    fn find_block(&self, space: Space, amount: u32) -> Option<Range>
+        requires { has_size space amount ≡ true }
+        ensures block { option_map (λ range. range.first) result ≡ least_block (pieces_in self.now.pool space) space (amount_size space amount) }
+        ensures range { IfSome result (λ range. range ≡ range_from space range.first (amount_size space amount)) }
+        ensures one { IfSome result (λ range. IsInOnePieceOrNone (pieces_in self.now.pool space) range) }
+        ensures pooled { IfSome result IsPoolRange }
     {
-        let size = size_of_block(len);
-        let start = least_block(self.book.walk(Space::Ipv4), size)?;
-        Some(Range::between(Space::Ipv4, start, start + (size - 1)))
+        let size = amount_size(space, amount);
+        let start = least_block(self.book.walk(space), space, size)?;
+        Some(Range::between(space, start, start + (size - 1)))
     }
 
-    /// Delegates the least available block of a prefix length.
-    fn delegate(&mut self, day: u32, len: u32, handle: &Handle) -> Result<Reply, AllocError>
-        requires len { len ≤ 32 }
+    /// Delegates the least available block of a size. After an error all is as before.
+    fn delegate(&mut self, request: &Request, space: Space, amount: u32, status: Delegation, handle: &Handle) -> Result<Answer, AllocError>
+        requires request { request.now ≡ Delegate space amount status handle.now }
+        requires size { has_size space amount ≡ true }
         requires number { self.old.entries + 1 < 2 ^ 64 }
-        ensures ok { IfOk result (λ reply. delegated day self.old len handle.now (least_block self.old.pieces Ipv4 (block_size Ipv4 len))
-            ≡ record { register = self.new; reply = Some reply }) }
+        ensures ok { IfOk result (λ answer.
+            delegated self.old space amount status handle.now (least_block (pieces_in self.old.pool space) space (amount_size space amount))
+            ≡ record { session = self.new; answer = Some answer }) }
+        ensures dates { IfOk result HasDates }
         ensures entries { self.new.entries ≤ self.old.entries + 1 }
         ensures err { OnErr result (self.new ≡ self.old) }
     {
-        let Some(range) = self.find_block(len) else {
-            return Ok(Reply::Refused(Refusal::NoBlock));
+        let Some(range) = self.find_block(space, amount) else {
+            return Ok(Answer::Decided(Reply::Refused(Refusal::NoBlock)));
         };
-        if let Err(refusal) = self.check_room(&range, Status::Allocated) {
-            return Ok(Reply::Refused(refusal));
+        if let Err(refusal) = self.check_room(&range, status.status()) {
+            return Ok(Answer::Decided(Reply::Refused(refusal)));
         }
         let holder = self.holders.number_or_add(handle)?;
         let card = Card {
-            status: Status::Allocated,
+            status: status.status(),
             holder: Some(holder),
-            day,
+            day: self.entry_day(),
             until: 0,
         };
-        Ok(self.enter(&range, &card))
+        Ok(self.enter(request, &range, &card))
+    }
+
+    /// Decides a request. After an error all is as before.
+    fn decide(&mut self, request: &Request) -> Result<Answer, AllocError>
+        requires size { IsSizedRequest request.now }
+        requires number { self.old.entries + 1 < 2 ^ 64 }
+        ensures ok { IfOk result (λ answer. requested self.old request.now ≡ record { session = self.new; answer = Some answer }) }
+        ensures dates { IfOk result HasDates }
+        ensures entries { self.new.entries ≤ self.old.entries + 1 }
+        ensures err { OnErr result (self.new ≡ self.old) }
+    {
+        match request {
+            Request::Receive { range } => Ok(self.receive(request, range)),
+            Request::Delegate {
+                space,
+                amount,
+                status,
+                handle,
+            } => self.delegate(request, *space, *amount, *status, handle),
+            _ => Ok(Answer::Decided(Reply::Refused(Refusal::Malformed { place: 1 }))),
+        }
+    }
+
+    /// What is known of a number.
+    fn show(&self, n: Number) -> Answer
+        ensures answer { result ≡ shown self.now (piece_at (pieces_in self.now.pool n.space) n.value) }
+        ensures dates { HasDates result }
+    {
+        let Some(piece) = self.book.piece_at(n) else {
+            return Answer::Outside;
+        };
+        let handle = match piece.card.holder {
+            Some(number) => self.holders.handle(number),
+            None => None,
+        };
+        Answer::Shown(piece, handle)
     }
 
     /// Answers a line, which is handed in without its line end: nothing where it asks for nothing. After an error all
     /// is as before.
-    pub fn answer(&mut self, day: u32, line: &[u8]) -> Result<Option<Reply>, AllocError>
+    pub fn answer(&mut self, line: &[u8]) -> Result<Option<Answer>, AllocError>
         requires { self.old.entries + 1 < 2 ^ 64 }
-        ensures ok { IfOk result (λ reply. answered day self.old line.now ≡ record { register = self.new; reply = reply }) }
+        ensures ok { IfOk result (λ answer. answered self.old line.now ≡ record { session = self.new; answer = answer }) }
+        ensures dates { IfOk result (λ answer. IfSome answer HasDates) }
         ensures entries { self.new.entries ≤ self.old.entries + 1 }
         ensures err { OnErr result (self.new ≡ self.old) }
     {
         match read_line(line) {
-            Line::Nothing => Ok(None),
-            Line::Malformed => Ok(Some(Reply::Refused(Refusal::Malformed { place: 1 }))),
-            Line::Receive(range) => Ok(Some(self.receive(&range))),
-            Line::Delegate(len, handle) => Ok(Some(self.delegate(day, len, &handle)?)),
+            Ok(Line::Request(request)) => Ok(Some(self.decide(&request)?)),
+            Ok(Line::Show(n)) => Ok(Some(self.show(n))),
+            Ok(Line::Day(day)) => {
+                self.day = day;
+                Ok(None)
+            }
+            Ok(Line::By(name)) => {
+                self.who = name;
+                Ok(None)
+            }
+            Ok(Line::Nothing) => Ok(None),
+            Ok(Line::Due) => Ok(Some(Answer::Decided(Reply::Refused(Refusal::Malformed { place: 1 })))),
+            Err(fault) => Ok(Some(Answer::Decided(Reply::Refused(Refusal::Malformed { place: fault.place })))),
         }
     }
-}
-
-/// How many addresses a block of a prefix length has.
-fn size_of_block(len: u32) -> u128
-    requires { len ≤ 32 }
-    ensures { result ≡ block_size Ipv4 len }
-{
-    1 << (32 - len)
 }

@@ -7,8 +7,8 @@ abbrev pub invariant-lines : goal.invariant-lines
 invariant-lines g l = record {
   entries : l.session.entries + length l.line + length l.rest ≤ l.initial.session.entries + length l.initial.line + length l.piece;
   faults : g.K.Sink.faults l.initial.out ≤ g.K.Sink.faults l.out;
-  kept : (tail : List ℕ) → Keeps (with_replies l.day (g.K.Sink.written l.initial.out) l.initial.session (l.initial.line ++ (l.piece ++ tail)))
-      (with_replies l.day (g.K.Sink.written l.out) l.session (l.line ++ (l.rest ++ tail)));
+  kept : (tail : List ℕ) → Keeps (with_replies (g.K.Sink.written l.initial.out) l.initial.session (l.initial.line ++ (l.piece ++ tail)))
+      (with_replies (g.K.Sink.written l.out) l.session (l.line ++ (l.rest ++ tail)));
 }
 
 abbrev pub decreases-lines : goal.decreases-lines

@@ -8,8 +8,8 @@ invariant-pieces g l = record {
   bytes : 0 < l.session.entries + length l.line → l.session.entries + length l.line + g.T.Source.budget l.script < 2 ^ 64;
   reads : g.T.Source.faults l.initial.script ≤ g.T.Source.faults l.script;
   writes : g.K.Sink.faults l.initial.out ≤ g.K.Sink.faults l.out;
-  kept : Keeps (with_all_replies l.day (g.K.Sink.written l.initial.out) l.initial.session [] (g.T.Source.left l.initial.script))
-      (with_all_replies l.day (g.K.Sink.written l.out) l.session l.line (g.T.Source.left l.script));
+  kept : Keeps (with_all_replies (g.K.Sink.written l.initial.out) l.initial.session [] (g.T.Source.left l.initial.script))
+      (with_all_replies (g.K.Sink.written l.out) l.session l.line (g.T.Source.left l.script));
 }
 
 abbrev pub decreases-pieces : goal.decreases-pieces

@@ -7,10 +7,10 @@ pub returns-clause-ok : goal.returns-clause-ok
 returns-clause-ok g c =
     let same : c.bytes-text.result.now ≡ c.args.line.now = c.bytes-text.ensures.bytes in
     let some : 0 < length c.bytes-text.result.now = grind (arith, nat_tests) in
-    rw (← same) (OnOk_map _ (last_answered _ _ _ _ c.bytes-text.result.now (rw same c.bytes-text.ensures.line) some) c.answer_line.ensures.ok)
+    rw (← same) (OnOk_map _ (last_answered _ _ _ c.bytes-text.result.now (rw same c.bytes-text.ensures.line) some) c.answer_line.ensures.ok)
 
 pub returns-clause-err : goal.returns-clause-err
 returns-clause-err g c =
     let same : c.bytes-text.result.now ≡ c.args.line.now = c.bytes-text.ensures.bytes in
     let some : 0 < length c.bytes-text.result.now = grind (arith, nat_tests) in
-    rw (← same) (OnErr_map _ (last_broken _ _ _ _ c.bytes-text.result.now (rw same c.bytes-text.ensures.line) some) c.answer_line.ensures.err)
+    rw (← same) (OnErr_map _ (last_broken _ _ _ c.bytes-text.result.now (rw same c.bytes-text.ensures.line) some) c.answer_line.ensures.err)

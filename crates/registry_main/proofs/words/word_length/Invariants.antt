@@ -1,6 +1,0 @@
-use Rattle.std.proofs.Common.{◌≡◌, ◌+◌, drop}
-use Rattle.registry_main.specs.Words.{word_length}
-use Rattle.registry_main.proofs.words.word_length.Given as goal
-
-abbrev pub invariant-loop-i : goal.invariant-loop-i
-invariant-loop-i l = l.i + word_length (drop l.i l.text) ≡ word_length l.text
