@@ -5,4 +5,5 @@ pub mod Numbering
 pub mod OneWord
 pub mod Registers
 pub mod Rounding
+mod Rows
 pub mod Written

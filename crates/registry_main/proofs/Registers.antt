@@ -45,9 +45,18 @@ after_test false s t h k = k
 -- ---- painting
 
 with_keeps : (pool : Partition) (space : Space) (ps : List Piece) → IsPartition pool → ArePieces space ps → IsPartition (with_pieces pool space ps)
-with_keeps pool Asn ps h new = record { each = λ s. elim s [ Asn ↦ new | Ipv4 ↦ h.each Ipv4 | Ipv6 ↦ h.each Ipv6 ] }
-with_keeps pool Ipv4 ps h new = record { each = λ s. elim s [ Asn ↦ h.each Asn | Ipv4 ↦ new | Ipv6 ↦ h.each Ipv6 ] }
-with_keeps pool Ipv6 ps h new = record { each = λ s. elim s [ Asn ↦ h.each Asn | Ipv4 ↦ h.each Ipv4 | Ipv6 ↦ new ] }
+with_keeps pool space ps h new = record { each = λ other. at space new other }
+  where
+    at : (space : Space) → ArePieces space ps → (other : Space) → ArePieces other (pieces_in (with_pieces pool space ps) other)
+    at Asn new Asn = new
+    at Asn new Ipv4 = h.each Ipv4
+    at Asn new Ipv6 = h.each Ipv6
+    at Ipv4 new Asn = h.each Asn
+    at Ipv4 new Ipv4 = new
+    at Ipv4 new Ipv6 = h.each Ipv6
+    at Ipv6 new Asn = h.each Asn
+    at Ipv6 new Ipv4 = h.each Ipv4
+    at Ipv6 new Ipv6 = new
 
 painted_keeps : (s : PlainSession) (handles : List (List ℕ)) (request : ARequest) (range : PlainRange) (c : Card) → HasPieces s → IsRange range
     → IsPoolRange range → IsCard c → HasPieces (painted s handles request range c).session
@@ -145,11 +154,16 @@ after_keeps : (s : PlainSession) (lines : List (List ℕ)) → HasPieces s → H
 after_keeps s [] h = h
 after_keeps s (line ∷ more) h = after_keeps (answered s line).session more (step_keeps s (line_of line) h (line_valid line))
 
+no_pieces : (space : Space) → ArePieces space []
+no_pieces space = record { rises = tt; settled = tt; each = tt }
+
 new_keeps : (day : ℕ) → HasPieces (new_session day)
-new_keeps day = record { each = λ space. elim space [ Asn ↦ none | Ipv4 ↦ none | Ipv6 ↦ none ] }
+new_keeps day = record { each = at }
   where
-    none : {space : Space} → ArePieces space []
-    none = record { rises = tt; settled = tt; each = tt }
+    at : (space : Space) → ArePieces space (pieces_in (new_session day).pool space)
+    at Asn = no_pieces Asn
+    at Ipv4 = no_pieces Ipv4
+    at Ipv6 = no_pieces Ipv6
 
 pub blocks_are_least : (day : ℕ) (script : List (List ℕ)) (space : Space) (size : ℕ) → 0 < size
     → IsLeastBlock (pieces_in (session_after (new_session day) script).pool space) space size (least_block (pieces_in (session_after (new_session day) script).pool space) space size)

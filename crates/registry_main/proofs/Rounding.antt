@@ -1,6 +1,7 @@
 -- Rounding up to a multiple, by what is missing.
-use Rattle.std.proofs.Common.{◌≡◌, ℕ, ◌+◌, ◌-◌, ◌*◌, ◌/◌, ◌%◌, ◌<◌, ◌∙◌, ap, arith}
-use Rattle.std.proofs.lemmas.Nat.{div-add-mod', div-mul-add}
+use Rattle.std.proofs.Common.{◌≡◌, ℕ, ◌+◌, ◌-◌, ◌*◌, ◌/◌, ◌%◌, ◌<◌, ◌≤◌, ◌^◌, ◌∙◌, ap, arith, lit≤}
+use Rattle.std.proofs.lemmas.Nat.{div-add-mod', div-mul-add, pow_pos}
+use Rattle.std.proofs.Math.Nat.{pow-le-pow_right}
 use Rattle.reg_entry.specs.Blocks.{rounded_up}
 
 rounds_to : (n size q b : ℕ) → b < size → n + (size - 1) ≡ q * size + b → rounded_up n size ≡ q * size
@@ -17,3 +18,9 @@ gap_some n size pos some =
     let parts = div-add-mod' n size in
     let whole : rounded_up n size ≡ (n / size + 1) * size = rounds_to n size (n / size + 1) (n % size - 1) (omega arith) (omega arith) in
     omega arith
+
+-- a block of so many bits less than 128 has some numbers, and no more than 2000::/3
+pub size_bounds : (amount : ℕ) → 3 ≤ amount → (1 ≤ 2 ^ (128 - amount)) × (2 ^ (128 - amount) ≤ 2 ^ 125)
+size_bounds amount h =
+    let below : 128 - amount ≤ 125 = omega arith in
+    (pow_pos (128 - amount), pow-le-pow_right (lit≤ tt) below)

@@ -12,10 +12,10 @@ ghost use Rattle.reg_entry.specs.Days.{last_date, clamped_day};
 ghost use Rattle.reg_entry.specs.Partition.{pieces_in, piece_count};
 ghost use Rattle.reg_entry.specs.Pieces.{piece_at, IsCard, IsInOnePieceOrNone, IsPoolRange};
 ghost use Rattle.reg_entry.specs.Request.{amount_size, has_size};
-ghost use Rattle.desk_lang.specs.Grammar.{IsSizedRequest};
+ghost use Rattle.desk_lang.specs.Grammar.{IsSizedRequest, IsSizedLine, IsDatedLine};
 ghost use Rattle.registry_main.specs.declared.answer.Answer.TheVariants.{Decided};
 ghost use Rattle.registry_main.specs.Dates.{HasCardDates};
-ghost use Rattle.registry_main.specs.Session.{new_session, HasDates, room, entry_day, entry_of, with_entry, painted_pool, receive_refusal, received, delegated, requested, shown, answered};
+ghost use Rattle.registry_main.specs.Session.{new_session, HasDates, room, entry_day, entry_of, with_entry, painted_pool, receive_refusal, received, delegated, requested, shown, step_of, answered};
 
 use crate::answer::Answer;
 use crate::holders::Holders;
@@ -24,7 +24,7 @@ use crate::unicast::least_outside_unicast;
 use desk_lang::{Line, read_line};
 use num_range::{Number, Range, Space};
 use piece_book::PieceBook;
-use reg_entry::{Card, Delegation, Entry, Handle, Name, Refusal, Reply, Request, Status};
+use reg_entry::{Card, Delegation, Entry, Handle, Name, Piece, Refusal, Reply, Request, Status};
 use std::alloc::{AllocError, Global};
 use std::marker::Model;
 
@@ -67,6 +67,7 @@ fn clamped_day(day: u32) -> u32
 }
 
 /// How many numbers an amount asks for.
+#[tactic(auto, using(crate::proofs::Rounding::size_bounds))]
 fn amount_size(space: Space, amount: u32) -> u128
     requires { has_size space amount ≡ true }
     ensures size { result ≡ amount_size space amount }
@@ -77,6 +78,13 @@ fn amount_size(space: Space, amount: u32) -> u128
         Space::Ipv4 => 1 << (32 - amount),
         Space::Ipv6 => 1 << (128 - amount),
     }
+}
+
+/// The answer of a refusal.
+fn refused(refusal: Refusal) -> Answer
+    ensures { result ≡ Decided (Refused refusal) }
+{
+    Answer::Decided(Reply::Refused(refusal))
 }
 
 impl Session {
@@ -97,6 +105,7 @@ impl Session {
     /// Tests that there is room for the pieces that there would be with a card of the status over the range.
     fn check_room(&self, range: &Range, status: Status) -> Result<(), Refusal>
         ensures fits { OnOk result ((c : Card) → c.status ≡ status → piece_count (painted_pool self.now range.now c) ≤ room) }
+        ensures dates { IfErr result (λ refusal. HasDates (Decided (Refused refusal))) }
         ensures full { IfErr result (λ refusal. (c : Card) → c.status ≡ status
             → (room < piece_count (painted_pool self.now range.now c)) × (refusal ≡ RegisterFull (piece_count (painted_pool self.now range.now c)) room)) }
     {
@@ -116,6 +125,7 @@ impl Session {
     }
 
     /// Paints the card over the range as the next entry, and answers with the entry.
+    #[tactic(auto, using(crate::proofs::Dates::painted_dates))]
     fn enter(&mut self, request: &Request, range: &Range, card: &Card) -> Answer
         requires one { IsInOnePieceOrNone (pieces_in self.old.pool range.now.space) range.now }
         requires pooled { IsPoolRange range.now }
@@ -160,13 +170,14 @@ impl Session {
         requires number { self.old.entries + 1 < 2 ^ 64 }
         ensures answer { received self.old range.now (receive_refusal self.old range.now) ≡ record { session = self.new; answer = Some result } }
         ensures dates { HasDates result }
+        ensures entries { self.new.entries ≤ self.old.entries + 1 }
     {
         if let Some(refusal) = self.receive_refusal(range) {
-            return Answer::Decided(Reply::Refused(refusal));
+            return refused(refusal);
         }
         match self.check_room(range, Status::Available) {
             Ok(()) => self.enter(request, range, &Card::plain()),
-            Err(refusal) => Answer::Decided(Reply::Refused(refusal)),
+            Err(refusal) => refused(refusal),
         }
     }
 
@@ -196,10 +207,10 @@ impl Session {
         ensures err { OnErr result (self.new ≡ self.old) }
     {
         let Some(range) = self.find_block(space, amount) else {
-            return Ok(Answer::Decided(Reply::Refused(Refusal::NoBlock)));
+            return Ok(refused(Refusal::NoBlock));
         };
         if let Err(refusal) = self.check_room(&range, status.status()) {
-            return Ok(Answer::Decided(Reply::Refused(refusal)));
+            return Ok(refused(refusal));
         }
         let holder = self.holders.number_or_add(handle)?;
         let card = Card {
@@ -228,16 +239,25 @@ impl Session {
                 status,
                 handle,
             } => self.delegate(request, *space, *amount, *status, handle),
-            _ => Ok(Answer::Decided(Reply::Refused(Refusal::Malformed { place: 1 }))),
+            _ => Ok(refused(Refusal::Malformed { place: 1 })),
         }
     }
 
+    /// The piece that holds the number.
+    #[tactic(auto, using(crate::proofs::Dates::piece_dates))]
+    fn find_piece(&self, n: &Number) -> Option<Piece>
+        ensures piece { result ≡ piece_at (pieces_in self.now.pool n.now.space) n.now.value }
+        ensures dates { IfSome result (λ p. HasCardDates p.card) }
+    {
+        self.book.piece_at(*n)
+    }
+
     /// What is known of a number.
-    fn show(&self, n: Number) -> Answer
-        ensures answer { result ≡ shown self.now (piece_at (pieces_in self.now.pool n.space) n.value) }
+    fn show(&self, n: &Number) -> Answer
+        ensures answer { result ≡ shown self.now (piece_at (pieces_in self.now.pool n.now.space) n.now.value) }
         ensures dates { HasDates result }
     {
-        let Some(piece) = self.book.piece_at(n) else {
+        let Some(piece) = self.find_piece(n) else {
             return Answer::Outside;
         };
         let handle = match piece.card.holder {
@@ -245,6 +265,32 @@ impl Session {
             None => None,
         };
         Answer::Shown(piece, handle)
+    }
+
+    /// Does what a line asks for: nothing is answered where it asks for nothing. After an error all is as before.
+    fn follow(&mut self, line: &Line) -> Result<Option<Answer>, AllocError>
+        requires sized { IsSizedLine line.now }
+        requires dated { IsDatedLine line.now }
+        requires number { self.old.entries + 1 < 2 ^ 64 }
+        ensures ok { IfOk result (λ answer. step_of self.old (Ok line.now) ≡ record { session = self.new; answer = answer }) }
+        ensures dates { IfOk result (λ answer. IfSome answer HasDates) }
+        ensures entries { self.new.entries ≤ self.old.entries + 1 }
+        ensures err { OnErr result (self.new ≡ self.old) }
+    {
+        match line {
+            Line::Request(request) => Ok(Some(self.decide(request)?)),
+            Line::Show(n) => Ok(Some(self.show(n))),
+            Line::Due => Ok(Some(refused(Refusal::Malformed { place: 1 }))),
+            Line::Day(day) => {
+                self.day = *day;
+                Ok(None)
+            }
+            Line::By(name) => {
+                self.who = *name;
+                Ok(None)
+            }
+            Line::Nothing => Ok(None),
+        }
     }
 
     /// Answers a line, which is handed in without its line end: nothing where it asks for nothing. After an error all
@@ -256,20 +302,9 @@ impl Session {
         ensures entries { self.new.entries ≤ self.old.entries + 1 }
         ensures err { OnErr result (self.new ≡ self.old) }
     {
-        match read_line(line) {
-            Ok(Line::Request(request)) => Ok(Some(self.decide(&request)?)),
-            Ok(Line::Show(n)) => Ok(Some(self.show(n))),
-            Ok(Line::Day(day)) => {
-                self.day = day;
-                Ok(None)
-            }
-            Ok(Line::By(name)) => {
-                self.who = name;
-                Ok(None)
-            }
-            Ok(Line::Nothing) => Ok(None),
-            Ok(Line::Due) => Ok(Some(Answer::Decided(Reply::Refused(Refusal::Malformed { place: 1 })))),
-            Err(fault) => Ok(Some(Answer::Decided(Reply::Refused(Refusal::Malformed { place: fault.place })))),
+        match &read_line(line) {
+            Ok(line) => self.follow(line),
+            Err(fault) => Ok(Some(refused(Refusal::Malformed { place: fault.place }))),
         }
     }
 }
