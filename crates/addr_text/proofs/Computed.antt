@@ -1,15 +1,13 @@
 -- The definitions that compute give what the grammar spells.
-use Rattle.std.proofs.Common.{◌≡◌, ◌≢◌, ℕ, ◌+◌, ◌%◌, ◌<◌, ◌≤◌, ◌^◌, ◌-◌, Bool, true, false, ◌&&◌, ◌==◌, nat_le, List, [], ◌∷◌, ◌++◌, take, drop, All, codes, decimal, Option, None, Some, MatchOption, IfSome, IfNone, inl, inr, refl, sym, ap, ◌∙◌, subst, append_assoc, append-nil, length, arith, take-append-drop, lit≤, ne_eqb, ⊎_elim, ◌⊎◌, true≢false, if◌then◌else◌}
+use Rattle.std.proofs.Common.{◌≡◌, ◌≢◌, ℕ, ◌%◌, ◌<◌, ◌≤◌, ◌^◌, ◌-◌, Bool, true, false, ◌&&◌, ◌==◌, nat_le, List, [], ◌∷◌, ◌++◌, take, drop, All, codes, decimal, Option, None, Some, MatchOption, IfSome, IfNone, inl, inr, refl, sym, ap, ◌∙◌, subst, append_assoc, append-nil, length, arith, take-append-drop, lit≤, ne_eqb, ⊎_elim, ◌⊎◌, true≢false, if◌then◌else◌}
 use Rattle.std.specs.Option.{option_map, option_and_then, option_or}
 use Rattle.std.specs.Int.{w32, w128, from_be_bytes}
-use Rattle.std.specs.Str.{bytes_eq}
 use Rattle.std.specs.Str.Parse.{digits_value}
 use Rattle.std.specs.Net.Addr.{octets_of}
 use Rattle.std.specs.Net.Grammar.{IsDotted, IsColonHex}
 use Rattle.std.specs.Net.Reader.{Read, whole_value, read_ipv4, read_ipv6}
 use Rattle.std.proofs.lemmas.Slice.Eq.{bytes_eq-Decides}
-use Rattle.std.proofs.lemmas.Bool.{cases_Bool}
-use Rattle.std.proofs.lemmas.Bool.Decides.{nat_tests, Decides-and, leb_tells, Decides-eqb, Decides-at, Decides-like, not_from_Decides}
+use Rattle.std.proofs.lemmas.Bool.Decides.{Decides-and, leb_tells, Decides-eqb, Decides-like, not_from_Decides}
 use Rattle.std.proofs.lemmas.Fmt.{decimal_is_IsNumeral, decimal_injective}
 use Rattle.std.specs.Bool.{Decides}
 use Rattle.std.proofs.lemmas.Option.{none-some}
@@ -78,9 +76,10 @@ module _ {A : Type 0} (Spells : List ℕ → A → Type 0) (text : List ℕ) (re
 -- ---- decimals
 
 decides_le : (a b : ℕ) → Decides (nat_le a b) (a ≤ b)
-decides_le a b =
-    (λ e. ⊎_elim (λ h. h.1) (λ h. absurd (true≢false (sym e ∙ h.0))) (leb_tells a b),
-    λ l. ⊎_elim (λ h. h.0) (λ h. absurd (omega (arith, l, h.1))) (leb_tells a b))
+decides_le a b = (
+  λ e. ⊎_elim (λ h. h.1) (λ h. absurd (true≢false (sym e ∙ h.0))) (leb_tells a b),
+  λ l. ⊎_elim (λ h. h.0) (λ h. absurd (omega (arith, l, h.1))) (leb_tells a b),
+)
 
 abbrev pub IsDecimalUpTo : ℕ → List ℕ → ℕ → Type 0
 IsDecimalUpTo most text n = (text ≡ decimal n) × (n ≤ most)

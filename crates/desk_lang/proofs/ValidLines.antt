@@ -1,28 +1,28 @@
 -- What a line names is of its space.
-use Rattle.std.proofs.Common.{◌≡◌, ℕ, zero, suc, ◌≤◌, Bool, true, false, cond, List, [], ◌∷◌, ◌++◌, Option, None, Some, Result, Ok, Err, refl, sym, ap, subst}
+use Rattle.std.proofs.Common.{◌≡◌, ℕ, Bool, true, false, cond, List, [], ◌∷◌, Option, None, Some, Result, Ok, Err, refl}
 use Rattle.std.specs.Prelude.{MatchOption, IfSome, IfOk, nat_le, nat_lt, length, if◌then◌else◌}
 use Rattle.std.specs.Option.{option_and_then}
-use Rattle.std.proofs.lemmas.Bool.{cases_Bool, le-leb, and_from}
+use Rattle.std.proofs.lemmas.Bool.{le-leb, and_from}
 use Rattle.num_range.specs.declared.space.Space.{Space}
 use Rattle.num_range.specs.Space.{top_of}
-use Rattle.num_range.specs.Number.{PlainNumber, IsNumber}
-use Rattle.num_range.specs.Range.{PlainRange, IsRange}
+use Rattle.num_range.specs.Number.{PlainNumber}
+use Rattle.num_range.specs.Range.{PlainRange}
 use Rattle.addr_text.specs.Number.{SpellsNumber}
 use Rattle.addr_text.specs.Range.{SpellsRange}
 use Rattle.addr_text.specs.Reading.{number_of, range_of}
 use Rattle.addr_text.proofs.Computed.{number_spelled, range_spelled}
 use Rattle.addr_text.proofs.Valid.{number_valid, range_valid}
 use Rattle.reg_entry.specs.declared.request.Request.{Request as ARequest}
-use Rattle.reg_entry.specs.declared.request.Request.TheVariants.{Receive, AddHolder, EditHolder, Delegate, Reserve, Unreserve, SubAssign, SubReturn, Return, Release, Split, Join, Transfer, SetReverse, ClearReverse}
+use Rattle.reg_entry.specs.declared.request.Request.TheVariants.{SetReverse}
 use Rattle.reg_entry.specs.Request.{has_size, is_range, is_number, is_request}
 use Rattle.desk_lang.specs.declared.line.Line.{Line}
-use Rattle.desk_lang.specs.declared.line.Line.TheVariants.{Request, Show, Due, Day, By, Nothing}
+use Rattle.desk_lang.specs.declared.line.Line.TheVariants.{Due, Nothing}
 use Rattle.desk_lang.specs.declared.verb.Verb.{Verb}
 use Rattle.desk_lang.specs.declared.verb.Verb.TheVariants as verbs
 use Rattle.desk_lang.specs.declared.rest.Form.{Form}
 use Rattle.desk_lang.specs.declared.rest.Form.TheVariants.{Plain}
 use Rattle.desk_lang.specs.declared.rest.Malformed.{Malformed}
-use Rattle.desk_lang.specs.Words.{PlainRest, PlainWord, rest_at, first_word, same_form, malformed_at, word_in, next_word, next_value, value_of_word, ended, at_end, ◌>>=◌}
+use Rattle.desk_lang.specs.Words.{PlainRest, PlainWord, rest_at, first_word, same_form, malformed_at, next_word, next_value, value_of_word, ended, at_end, ◌>>=◌}
 use Rattle.desk_lang.specs.Values.{spelled_amount, amount_of}
 use Rattle.desk_lang.specs.Grammar.{range_line, number_line, range_and_handle, holder_line, delegate_line, transfer_line, more_hosts, reverse_line, day_line, by_line, requested, verb_of, line_of_verb, is_comment, line_of_first, line_of_word, line_of, IsSizedRequest, IsValidLine}
 

@@ -20,7 +20,7 @@ use Rattle.desk_lang.specs.declared.verb.Verb.{Verb}
 use Rattle.desk_lang.specs.declared.verb.Verb.TheVariants as verbs
 use Rattle.desk_lang.specs.declared.rest.Form.TheVariants.{Plain, Quoted}
 use Rattle.desk_lang.specs.declared.rest.Malformed.{Malformed}
-use Rattle.desk_lang.specs.Words.{PlainRest, PlainWord, rest_at, first_word, same_form, next_value, value_of_word, at_end, malformed_at, ◌>>=◌}
+use Rattle.desk_lang.specs.Words.{PlainRest, PlainWord, rest_at, first_word, same_form, next_value, at_end, malformed_at, ◌>>=◌}
 use Rattle.desk_lang.specs.Values.{label_of, kind_of, space_of, delegation_of, amount_of}
 
 -- ---- what stands behind the first word

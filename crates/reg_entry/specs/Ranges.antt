@@ -1,21 +1,12 @@
 -- Ranges that carry a value, as a sorted list: sub-assignments and reverse entries are kept so.
 use Rattle.std.specs.Prelude.{◌≡◌, ℕ, Bool, true, not, ◌&&◌, ◌||◌, ◌==◌, nat_lt, nat_le, if◌then◌else◌, List, [], ◌∷◌, Option, filter, find}
 use Rattle.std.specs.Option.{option_map}
+pub use Rattle.num_range.specs.Space.{space_rank, same_space}
 use Rattle.num_range.specs.declared.space.Space.{Space}
-use Rattle.num_range.specs.declared.space.Space.TheVariants.{Asn, Ipv4, Ipv6}
 use Rattle.num_range.specs.Number.{PlainNumber}
 use Rattle.num_range.specs.Range.{PlainRange, IsRange}
 
 -- ---- ranges compared
-
--- the place of a space in the order of the three
-abbrev pub space_rank : Space → ℕ
-space_rank Asn = 0
-space_rank Ipv4 = 1
-space_rank Ipv6 = 2
-
-abbrev pub same_space : Space → Space → Bool
-same_space a b = space_rank a == space_rank b
 
 abbrev pub same_range : PlainRange → PlainRange → Bool
 same_range r s = same_space r.space s.space && (r.first == s.first) && (r.last == s.last)

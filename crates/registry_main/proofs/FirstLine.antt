@@ -6,9 +6,7 @@ use Rattle.std.specs.Prelude.{◌==◌, slice_index}
 use Rattle.std.specs.List.{slice_split, onto_first}
 use Rattle.std.specs.Str.Lines.{lines, lines_of_parts, strip_carriage_return}
 use Rattle.std.proofs.lemmas.Bool.{cases_Bool, cases_lt, lt-ltb, ne_eqb, eqb-true}
-use Rattle.std.specs.Prelude.{Result, Ok, Err}
-use Rattle.desk_lang.specs.declared.line.Line.{Line}
-use Rattle.desk_lang.specs.declared.rest.Malformed.{Malformed}
+use Rattle.std.specs.Prelude.{Err}
 use Rattle.desk_lang.specs.Words.{malformed_at}
 use Rattle.desk_lang.specs.Grammar.{line_of}
 use Rattle.registry_main.specs.Session.{PlainSession, Step, answered, answer_text, step_of, replies, replies_to}

@@ -3,9 +3,7 @@ use Rattle.std.proofs.Common.{◌≡◌, ℕ, ◌+◌, ◌-◌, ◌<◌, ◌≤�
 use Rattle.std.specs.Prelude.{nat_le}
 use Rattle.std.proofs.lemmas.Bool.{cases_Bool, leb-true, and_parts}
 use Rattle.num_range.specs.declared.space.Space.{Space}
-use Rattle.num_range.specs.declared.space.Space.TheVariants.{Ipv6}
 use Rattle.reg_entry.specs.Covers.{range_from}
-use Rattle.num_range.specs.Range.{PlainRange}
 use Rattle.num_range.specs.Space.{top_of}
 use Rattle.reg_entry.specs.declared.piece.Piece.{Piece}
 use Rattle.reg_entry.specs.Card.{is_available}

@@ -1,5 +1,5 @@
 -- The pieces of every register that a script builds are pieces of their spaces.
-use Rattle.std.proofs.Common.{◌≡◌, ℕ, ◌-◌, ◌<◌, ◌≤◌, Bool, true, false, cond, List, [], ◌∷◌, length, Option, None, Some, Result, Ok, Err, refl, sym, ◌∙◌, ap, subst, arith, inl, inr}
+use Rattle.std.proofs.Common.{◌≡◌, ℕ, ◌-◌, ◌<◌, ◌≤◌, Bool, true, false, cond, List, [], ◌∷◌, Option, None, Some, Result, Ok, Err, refl, sym, ◌∙◌, arith, inl, inr}
 use Rattle.std.specs.Prelude.{nat_lt, nat_le, max, ◌^◌}
 use Rattle.std.specs.Option.{option_or}
 use Rattle.std.proofs.lemmas.Bool.{cases_Bool, ltb-true, ltb-false, leb-true, and_parts}
@@ -17,11 +17,11 @@ use Rattle.reg_entry.specs.declared.request.Delegation.TheVariants.{Allocate, As
 use Rattle.reg_entry.specs.declared.request.Request.{Request as ARequest}
 use Rattle.reg_entry.specs.declared.request.Request.TheVariants.{Receive, AddHolder, EditHolder, Delegate, Reserve, Unreserve, SubAssign, SubReturn, Return, Release, Split, Join, Transfer, SetReverse, ClearReverse}
 use Rattle.reg_entry.specs.Blocks.{least_block, IsLeastBlock}
-use Rattle.reg_entry.specs.Card.{is_available, plain_card}
+use Rattle.reg_entry.specs.Card.{plain_card}
 use Rattle.reg_entry.specs.Covers.{range_from, holder_card}
 use Rattle.reg_entry.specs.Decision.{least_outside_unicast, least_unpooled, outside_unicast, outside_at}
 use Rattle.reg_entry.specs.Partition.{Partition, pieces_in, with_pieces, piece_count, IsPartition}
-use Rattle.reg_entry.specs.Pieces.{laid, overlap, ArePieces, IsCard, IsPoolRange, IsLeastTaken}
+use Rattle.reg_entry.specs.Pieces.{overlap, ArePieces, IsCard, IsPoolRange, IsLeastTaken}
 use Rattle.reg_entry.specs.Request.{status_of, amount_size, has_size, is_range, is_request}
 use Rattle.reg_entry.proofs.Laying.{laid_keeps}
 use Rattle.reg_entry.proofs.LeastBlock.{least_block_is_least}
@@ -31,8 +31,7 @@ use Rattle.desk_lang.specs.declared.line.Line.TheVariants.{Request, Show, Due, D
 use Rattle.desk_lang.specs.declared.rest.Malformed.{Malformed}
 use Rattle.desk_lang.specs.Grammar.{line_of, IsSizedRequest, IsValidLine}
 use Rattle.desk_lang.proofs.ValidLines.{line_valid}
-use Rattle.registry_main.specs.Session.{PlainSession, Step, new_session, answered, step_of, requested, received, delegated, receive_refusal, painted, painted_pool, refused, with_entry, entry_day, session_after, room}
-use Rattle.registry_main.specs.Holders.{holder_number, with_handle}
+use Rattle.registry_main.specs.Session.{PlainSession, Step, new_session, answered, step_of, requested, received, delegated, receive_refusal, painted, painted_pool, refused, session_after, room}
 use Rattle.registry_main.proofs.FoundBlock.{found_within, found_pooled}
 
 abbrev HasPieces : PlainSession → Type 0
@@ -75,9 +74,9 @@ unpooled : (r : PlainRange) → least_unpooled r ≡ None → (2 ^ 125 ≤ r.fir
 unpooled r e = elim (cases_Bool (nat_lt r.first (2 ^ 125))) [
   | inl low ↦ let h : ◌≡◌ {A = Option ℕ} (Some r.first) None = rw low at e in cc
   | inr high ↦ elim (cases_Bool (nat_lt r.last (2 ^ 126))) [
-      | inl below ↦ (omega (arith, ltb-false r.first (2 ^ 125) high), ltb-true r.last (2 ^ 126) below)
-      | inr above ↦ let h : ◌≡◌ {A = Option ℕ} (Some (max r.first (2 ^ 126))) None = rw (high, above) at e in cc
-    ]
+    | inl below ↦ (omega (arith, ltb-false r.first (2 ^ 125) high), ltb-true r.last (2 ^ 126) below)
+    | inr above ↦ let h : ◌≡◌ {A = Option ℕ} (Some (max r.first (2 ^ 126))) None = rw (high, above) at e in cc
+  ]
 ]
 
 no_value : (space : Space) (value : Option ℕ) → outside_at space value ≡ None → value ≡ None

@@ -8,7 +8,7 @@ use Rattle.registry_main.specs.Session.{PlainSession, answered, answer_text, rep
 use Rattle.registry_main.specs.LineBuffer.{HasNoNewline, IsAnsweredAs}
 use Rattle.registry_main.proofs.FirstLine.{replies_to-line, replies_to-last}
 use Rattle.std.proofs.KnownBytes.{Keeps-trans}
-use Rattle.std.proofs.lemmas.Bool.{cases_Bool, cases_lt, eqb-true}
+use Rattle.std.proofs.lemmas.Bool.{cases_lt, eqb-true}
 use Rattle.std.specs.Prelude.{◌==◌, MatchOption, Bool, true, false, if◌then◌else◌}
 use Rattle.std.specs.Option.{option_map}
 use Rattle.addr_text.specs.Reading.{parted_at}

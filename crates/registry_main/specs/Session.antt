@@ -1,9 +1,8 @@
 -- What the lines of a script make of the register, and what each is answered.
-use Rattle.std.specs.Prelude.{ℕ, ◌+◌, max, nat_lt, if◌then◌else◌, List, [], ◌∷◌, ◌++◌, length, Option, None, Some, Result, Ok, Err, codes, slice_get}
+use Rattle.std.specs.Prelude.{ℕ, ◌+◌, max, nat_lt, if◌then◌else◌, List, [], ◌∷◌, ◌++◌, Option, None, Some, Result, Ok, Err, codes, slice_get}
 use Rattle.std.specs.Option.{option_or, option_and_then}
 use Rattle.std.specs.Str.Lines.{lines}
 use Rattle.num_range.specs.declared.space.Space.{Space}
-use Rattle.num_range.specs.Number.{PlainNumber}
 use Rattle.num_range.specs.Range.{PlainRange}
 use Rattle.reg_entry.specs.declared.card.Card.{Card}
 use Rattle.reg_entry.specs.declared.entry.Reply.TheVariants.{Accepted, Refused}

@@ -49,11 +49,7 @@ fn without_return(line: &[u8]) -> &[u8]
 }
 
 /// Answers one line, which is handed in without its line end.
-fn answer_line<K: Sink>(
-    session: &mut Session,
-    line: &[u8],
-    out: &mut K,
-) -> Result<(), Stop>
+fn answer_line<K: Sink>(session: &mut Session, line: &[u8], out: &mut K) -> Result<(), Stop>
     requires { session.old.entries + 1 < 2 ^ 64 }
     ensures ok { OnOk result (Appends (K.written out.old) (K.written out.new) (answer_text (answered session.old line.now).answer)) }
     ensures session { OnOk result (session.new ≡ (answered session.old line.now).session) }
@@ -75,11 +71,7 @@ fn answer_line<K: Sink>(
 }
 
 /// Answers the line that is kept, whose end has come, and begins the next.
-fn end_line<K: Sink>(
-    session: &mut Session,
-    line: &mut LineBuffer,
-    out: &mut K,
-) -> Result<(), Stop>
+fn end_line<K: Sink>(session: &mut Session, line: &mut LineBuffer, out: &mut K) -> Result<(), Stop>
     requires { session.old.entries + 1 < 2 ^ 64 }
     ensures ok { OnOk result ((tail : List ℕ) →
         Keeps (with_replies (K.written out.old) session.old (line.old ++ 10 ∷ tail)) (with_replies (K.written out.new) session.new tail)) }
@@ -132,11 +124,7 @@ fn answer_lines<K: Sink>(
 }
 
 /// Answers the last line, where it has no line end.
-fn end_script<K: Sink>(
-    session: &mut Session,
-    line: &LineBuffer,
-    out: &mut K,
-) -> Result<(), Stop>
+fn end_script<K: Sink>(session: &mut Session, line: &LineBuffer, out: &mut K) -> Result<(), Stop>
     requires { session.old.entries + length line.now < 2 ^ 64 }
     ensures ok { OnOk result (Keeps (with_replies (K.written out.old) session.old line.now) (K.written out.new)) }
     ensures err { OnErr result (BeginsWith (with_replies (K.written out.old) session.old line.now) (K.written out.new)) }

@@ -195,7 +195,14 @@ impl Session {
     }
 
     /// Delegates the least available block of a size. After an error all is as before.
-    fn delegate(&mut self, request: &Request, space: Space, amount: u32, status: Delegation, handle: &Handle) -> Result<Answer, AllocError>
+    fn delegate(
+        &mut self,
+        request: &Request,
+        space: Space,
+        amount: u32,
+        status: Delegation,
+        handle: &Handle,
+    ) -> Result<Answer, AllocError>
         requires request { request.now ≡ Delegate space amount status handle.now }
         requires size { has_size space amount ≡ true }
         requires number { self.old.entries + 1 < 2 ^ 64 }
