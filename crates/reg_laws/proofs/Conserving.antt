@@ -50,7 +50,7 @@ delegated_is_card : (status : Delegation) (holder : Option ℕ) (day until : ℕ
 delegated_is_card Allocate holder day until e = absurd (both_ways false refl e)
 delegated_is_card Assign holder day until e = absurd (both_ways false refl e)
 
-not_available : (s : Status) → is_delegated s ≡ true → is_available s ≡ false
+pub not_available : (s : Status) → is_delegated s ≡ true → is_available s ≡ false
 not_available Available e = absurd (both_ways false refl e)
 not_available Reserved e = absurd (both_ways false refl e)
 not_available Quarantine e = absurd (both_ways false refl e)
@@ -100,24 +100,24 @@ block_inside r space amount (Some x) h e =
 -- ---- the entries
 
 -- what was to be shown of the entry, from what was shown of the cover and the card that are its own
-moved : (pool : Partition) (request : Request) (cover cover₁ : Option PlainRange) (card card₁ : Option Card) → cover₁ ≡ cover → card₁ ≡ card
+pub moved : (pool : Partition) (request : Request) (cover cover₁ : Option PlainRange) (card card₁ : Option Card) → cover₁ ≡ cover → card₁ ≡ card
     → IsConserved pool request cover card → IsConserved pool request cover₁ card₁
 moved pool request cover cover₁ card card₁ e f h =
     subst (λ x. IsConserved pool request x card₁) (sym e) (subst (λ x. IsConserved pool request cover x) (sym f) h)
 
 -- the rules behind the first two
-abbrev rules_behind : List (Option Refusal) → List (Option Refusal)
+abbrev pub rules_behind : List (Option Refusal) → List (Option Refusal)
 rules_behind (a ∷ b ∷ rules) = rules
 rules_behind rules = []
 
 -- what the rules of a request say of its range
-in_one : (r : Register) (range : PlainRange) (rest : List (Option Refusal)) → is_range range ≡ true
+pub in_one : (r : Register) (range : PlainRange) (rest : List (Option Refusal)) → is_range range ≡ true
     → first_of (outside_pool r range ∷ not_in_one_piece r range ∷ rest) ≡ None → IsInPiece r.pool range
 in_one r range rest valid e =
     let a = or_none (outside_pool r range) (first_of (not_in_one_piece r range ∷ rest)) e in
     inside_one r range valid a.0 (or_none (not_in_one_piece r range) (first_of rest) a.1).0
 
-all_one : (r : Register) (range : PlainRange) (rest : List (Option Refusal)) → is_range range ≡ true
+pub all_one : (r : Register) (range : PlainRange) (rest : List (Option Refusal)) → is_range range ≡ true
     → first_of (outside_pool r range ∷ not_one_piece r range ∷ rest) ≡ None → IsOnePiece r.pool range
 all_one r range rest valid e =
     let a = or_none (outside_pool r range) (first_of (not_one_piece r range ∷ rest)) e in
@@ -183,7 +183,7 @@ join_conserves r at cover h early =
     painted_nothing (Some range) = refl
 
 -- each entry that may come next keeps the pool, its cards and its numbers
-by_request : (r : Register) (request : Request) (day until : ℕ) (start : Option ℕ) → IsPartition r.pool → is_request request ≡ true
+pub by_request : (r : Register) (request : Request) (day until : ℕ) (start : Option ℕ) → IsPartition r.pool → is_request request ≡ true
     → first_of (early_rules r request) ≡ None → block_may_be r request start ≡ true
     → IsConserved r.pool request (cover_for r request start) (card_for r request day until)
 by_request r (Receive range) day until start h valid early block =

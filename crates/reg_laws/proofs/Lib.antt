@@ -6,3 +6,9 @@ pub mod NextFacts
 pub mod Painted
 pub mod Conserving
 pub mod FreeBlocks
+pub mod Parts
+pub mod RangeLists
+pub mod HolderFacts
+pub mod CardFacts
+pub mod PieceCounts
+pub mod Keeping
