@@ -143,17 +143,15 @@ split_conserves r at cover h early =
     painted_nothing None = refl
     painted_nothing (Some range) = refl
 
-join_conserves : (r : Register) (at : PlainNumber) (cover : Option PlainRange) → IsPartition r.pool → first_of (early_rules r (Join at)) ≡ None
-    → IsConserved r.pool (Join at) cover None
-join_conserves r at cover h early =
+-- what the rules of a Join say of its number
+pub can_be_joined : (r : Register) (at : PlainNumber) → first_of (early_rules r (Join at)) ≡ None → CanJoinAt (pieces_in r.pool at.space) at.value
+can_be_joined r at early =
     let a = or_none (begins_space at) _ early in
     let b = or_none (number_outside_pool r at) _ a.1 in
     let c = or_none (number_outside_pool r (number_before at)) _ b.1 in
     let d = or_none (begins_no_piece r at) _ c.1 in
     let e = or_none (wrong_status r at is_delegated) _ d.1 in
     let f = or_none (cards_differ r at) None e.1 in
-    let ps : List Piece = pieces_in r.pool at.space in
-    let all = h.each at.space in
     let left = number_in_pool r (number_before at) c.0 in
     let right = number_in_pool r at b.0 in
     let nonzero : at.value ≡ 0 → ⊥ = eqb-false at.value 0 (refuse_if_none (at.value == 0) (OutsidePool at) a.0) in
@@ -161,7 +159,7 @@ join_conserves r at cover h early =
     let fixed = not_available right.0.card.status (right_status r at is_delegated right.0 e.0 right.1) in
     let differ = on_the_piece _ (piece_of r.pool (number_before at)) left.0 f.0 left.1 in
     let same = allowed_if (same_card left.0.card right.0.card) (CardsDiffer left.0.range) (on_the_piece _ (piece_of r.pool at) right.0 differ right.1) in
-    let can : CanJoinAt ps at.value = record {
+    record {
       left = left.0;
       right = right.0;
       positive = positive at.value nonzero;
@@ -170,14 +168,21 @@ join_conserves r at cover h early =
       begins = eqb-true right.0.range.first at.value begins;
       one_card = same_card-true left.0.card right.0.card same;
       fixed = fixed;
-    } in
-    rearranged r.pool (Join at) cover at.space (joined_at ps at.value) h (painted_nothing cover) refl
-    (join_keeps at.space ps at.value all can)
-    (λ x. card_at-joined_at at.space ps at.value x all can) (size_sum-joined_at at.space ps at.value all can)
+    }
   where
     positive : (n : ℕ) → (n ≡ 0 → ⊥) → 0 < n
     positive n h = omega arith
 
+join_conserves : (r : Register) (at : PlainNumber) (cover : Option PlainRange) → IsPartition r.pool → first_of (early_rules r (Join at)) ≡ None
+    → IsConserved r.pool (Join at) cover None
+join_conserves r at cover h early =
+    let ps : List Piece = pieces_in r.pool at.space in
+    let all = h.each at.space in
+    let can = can_be_joined r at early in
+    rearranged r.pool (Join at) cover at.space (joined_at ps at.value) h (painted_nothing cover) refl
+    (join_keeps at.space ps at.value all can)
+    (λ x. card_at-joined_at at.space ps at.value x all can) (size_sum-joined_at at.space ps at.value all can)
+  where
     painted_nothing : (cover : Option PlainRange) → pool_after (Join at) cover None r.pool ≡ pool_after (Join at) None None r.pool
     painted_nothing None = refl
     painted_nothing (Some range) = refl

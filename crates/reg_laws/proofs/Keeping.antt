@@ -116,7 +116,7 @@ same_piece pool s r c h order is met inside =
 
 -- ---- painting
 
-abbrev painted_over : Partition → PlainRange → Card → Partition
+abbrev pub painted_over : Partition → PlainRange → Card → Partition
 painted_over pool r d = with_pieces pool r.space (laid (pieces_in pool r.space) r d)
 
 apart_kept : (pool : Partition) (r : PlainRange) (d : Card) (s : PlainRange) (c : Card) → IsPartition pool → IsPartition (painted_over pool r d)
@@ -140,7 +140,7 @@ keeps_where pool r d test h after range meeting s c order untested delegated is 
     ]
 
 -- what is painted lies in a piece that isn't delegated
-keeps_free : (pool : Partition) (r : PlainRange) (d : Card) (test : PlainRange → Bool) → IsPartition pool → IsPartition (painted_over pool r d)
+pub keeps_free : (pool : Partition) (r : PlainRange) (d : Card) (test : PlainRange → Bool) → IsPartition pool → IsPartition (painted_over pool r d)
     → (inside : IsInPiece pool r) → is_delegated inside.piece.card.status ≡ false → Keeps pool (painted_over pool r d) test
 keeps_free pool r d test h after inside free =
     keeps_where pool r d test h after inside.order
@@ -150,7 +150,7 @@ keeps_free pool r d test h after inside free =
     (ap (λ p. is_delegated p.card.status) (sym same) ∙ ap (λ x. is_delegated x.status) is.card ∙ delegated)))
 
 -- what is painted was in no piece
-keeps_received : (pool : Partition) (r : PlainRange) (d : Card) (test : PlainRange → Bool) → IsPartition pool → IsPartition (painted_over pool r d)
+pub keeps_received : (pool : Partition) (r : PlainRange) (d : Card) (test : PlainRange → Bool) → IsPartition pool → IsPartition (painted_over pool r d)
     → IsRange r → overlap (pieces_in pool r.space) r ≡ None → Keeps pool (painted_over pool r d) test
 keeps_received pool r d test h after range none =
     let ps : List Piece = pieces_in pool r.space in
@@ -170,14 +170,14 @@ inside_same pool s r c h order is met one =
     subst (λ x. lies_inside s x ≡ true) (ap (λ p. p.range) same ∙ sym one.same) is.inside
 
 -- a piece was returned: nothing that lies inside it is spoken of
-keeps_returned : (pool : Partition) (r : PlainRange) (d : Card) → IsPartition pool → IsPartition (painted_over pool r d) → IsOnePiece pool r
+pub keeps_returned : (pool : Partition) (r : PlainRange) (d : Card) → IsPartition pool → IsPartition (painted_over pool r d) → IsOnePiece pool r
     → Keeps pool (painted_over pool r d) (λ s. lies_inside s r)
 keeps_returned pool r d h after one =
     keeps_where pool r d (λ s. lies_inside s r) h after one.order
     (λ s c order untested delegated is met. absurd (both_ways (lies_inside s r) untested (inside_same pool s r c h order is met one)))
 
 -- a piece was painted with its own status
-keeps_transferred : (pool : Partition) (r : PlainRange) (d : Card) (test : PlainRange → Bool) → IsPartition pool → IsPartition (painted_over pool r d)
+pub keeps_transferred : (pool : Partition) (r : PlainRange) (d : Card) (test : PlainRange → Bool) → IsPartition pool → IsPartition (painted_over pool r d)
     → (one : IsOnePiece pool r) → d.status ≡ one.piece.card.status → is_available d.status ≡ false → Keeps pool (painted_over pool r d) test
 unfolding one_is_inside
 keeps_transferred pool r d test h after one status fixed =
@@ -216,7 +216,7 @@ uncut s at e f =
         and_from (same_space s.space at.space && nat_le first n) (nat_le n last)
         (and_from (same_space s.space at.space) (nat_le first n) one (le-leb first n h)) (le-leb n last k)
 
-keeps_split : (pool : Partition) (at : PlainNumber) → IsPartition (with_pieces pool at.space (split_at_number (pieces_in pool at.space) at.value))
+pub keeps_split : (pool : Partition) (at : PlainNumber) → IsPartition (with_pieces pool at.space (split_at_number (pieces_in pool at.space) at.value))
     → Keeps pool (with_pieces pool at.space (split_at_number (pieces_in pool at.space) at.value)) (straddles at)
 keeps_split pool at after s c order untested delegated is = record {
   card = c;
@@ -226,7 +226,7 @@ keeps_split pool at after s c order untested delegated is = record {
       (λ e. part_split (pieces_in pool at.space) at.value s.first s.last c (uncut s at e untested));
 }
 
-keeps_join : (pool : Partition) (at : PlainNumber) (test : PlainRange → Bool) → IsPartition pool
+pub keeps_join : (pool : Partition) (at : PlainNumber) (test : PlainRange → Bool) → IsPartition pool
     → IsPartition (with_pieces pool at.space (joined_at (pieces_in pool at.space) at.value)) → CanJoinAt (pieces_in pool at.space) at.value
     → Keeps pool (with_pieces pool at.space (joined_at (pieces_in pool at.space) at.value)) test
 keeps_join pool at test h after can s c order untested delegated is = record {

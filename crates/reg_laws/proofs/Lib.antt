@@ -12,3 +12,6 @@ pub mod HolderFacts
 pub mod CardFacts
 pub mod PieceCounts
 pub mod Keeping
+pub mod RequestKeeps
+pub mod WholeLists
+pub mod WholeStep

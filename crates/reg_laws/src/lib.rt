@@ -5,3 +5,4 @@ pub mod conservation;
 pub mod next;
 pub mod objects;
 pub mod pieces;
+pub mod whole;
