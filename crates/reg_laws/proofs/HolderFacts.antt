@@ -36,7 +36,7 @@ none_with_handle hs handle e =
 
 -- ---- handles differ
 
-find_rest : (handle : List ℕ) (m : Holder × ℕ) (hs : List (Holder × ℕ)) → find (has_handle handle) (m ∷ hs) ≡ None
+pub find_rest : (handle : List ℕ) (m : Holder × ℕ) (hs : List (Holder × ℕ)) → find (has_handle handle) (m ∷ hs) ≡ None
     → (has_handle handle m ≡ false) × (find (has_handle handle) hs ≡ None)
 find_rest handle m hs e =
     elim (cases_Bool (has_handle handle m)) [
@@ -51,7 +51,7 @@ find_in_more handle (q ∷ hs) m e f =
     let p = find_rest handle q hs e in
     cond-false (has_handle handle q) (Some q) (find (has_handle handle) (hs ++ m ∷ [])) p.0 ∙ find_in_more handle hs m p.1 f
 
-other_way : (a b : List ℕ) → bytes_eq a b ≡ false → bytes_eq b a ≡ false
+pub other_way : (a b : List ℕ) → bytes_eq a b ≡ false → bytes_eq b a ≡ false
 other_way a b f =
     false_from_ne_true (bytes_eq b a) (λ t. both_ways (bytes_eq a b) f (ap (λ x. bytes_eq a x) (bytes_eq-true b a t) ∙ bytes_eq-refl a))
 

@@ -15,3 +15,5 @@ pub mod Keeping
 pub mod RequestKeeps
 pub mod WholeLists
 pub mod WholeStep
+pub mod ReverseCuts
+pub mod DistinctKeys

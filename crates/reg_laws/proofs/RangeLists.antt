@@ -91,7 +91,7 @@ all_filtered P Q test (s ∷ ss) f h =
 
 -- ---- ranges apart
 
-below_cases : (r s : PlainRange) → IsBelow r s → (space_rank r.space < space_rank s.space) ⊎ ((space_rank r.space ≡ space_rank s.space) × (r.last < s.first))
+pub below_cases : (r s : PlainRange) → IsBelow r s → (space_rank r.space < space_rank s.space) ⊎ ((space_rank r.space ≡ space_rank s.space) × (r.last < s.first))
 below_cases r s h =
     elim (or_cases (nat_lt (space_rank r.space) (space_rank s.space)) (same_space r.space s.space && nat_lt r.last s.first) h) [
       | inl lt ↦ inl (ltb-true (space_rank r.space) (space_rank s.space) lt)
@@ -100,11 +100,11 @@ below_cases r s h =
           inr (eqb-true (space_rank r.space) (space_rank s.space) p.0, ltb-true r.last s.first p.1)
     ]
 
-below_rank : (r s : PlainRange) → space_rank r.space < space_rank s.space → IsBelow r s
+pub below_rank : (r s : PlainRange) → space_rank r.space < space_rank s.space → IsBelow r s
 below_rank r s h =
     or_left (nat_lt (space_rank r.space) (space_rank s.space)) (same_space r.space s.space && nat_lt r.last s.first) (lt-ltb (space_rank r.space) (space_rank s.space) h)
 
-below_same : (r s : PlainRange) → space_rank r.space ≡ space_rank s.space → r.last < s.first → IsBelow r s
+pub below_same : (r s : PlainRange) → space_rank r.space ≡ space_rank s.space → r.last < s.first → IsBelow r s
 below_same r s e h =
     or_right (nat_lt (space_rank r.space) (space_rank s.space)) (same_space r.space s.space && nat_lt r.last s.first)
     (and_from (same_space r.space s.space) (nat_lt r.last s.first) (eq-eqb (space_rank r.space) (space_rank s.space) e) (lt-ltb r.last s.first h))
