@@ -17,3 +17,4 @@ pub mod WholeLists
 pub mod WholeStep
 pub mod ReverseCuts
 pub mod DistinctKeys
+pub mod Boards

@@ -108,6 +108,10 @@ day_behind r day e =
     let q = and_parts (nat_le 1 day) (nat_le r.last_day day) p.0 in
     record { dated = leb-true 1 day q.0; later = leb-true r.last_day day q.1; within = leb-true day last_date p.1 }
 
+-- the day of the last entry never falls
+pub later_day : (r : Register) (e : PlainEntry) → IsNextEntry r e → r.last_day ≤ e.day
+later_day r e next = (day_behind r e.day (next_facts r e next).day).later
+
 first_day_bound : (b : Bool) (first last day : ℕ) → first ≤ last → last ≤ day → cond b day first ≤ day
 first_day_bound b first last day h k = cond_both b day first (λ x. x ≤ day) (λ e. omega arith) (λ e. omega arith)
 

@@ -1,6 +1,7 @@
 //! Laws over the register's definitions, each proved as the contract of a function that does nothing.
 #![tactic(auto)]
 
+pub mod board;
 pub mod conservation;
 pub mod next;
 pub mod objects;
