@@ -1,12 +1,11 @@
 -- The board of every legal list is whole: its kept operations have days that can be written, their cuts are blocks at which
 -- zones are cut, and they are the last of all, as many as the window has room for.
-use Rattle.std.proofs.Common.{◌≡◌, ℕ, zero, suc, ◌+◌, ◌-◌, ◌<◌, ◌≤◌, Bool, true, cond, inl, inr, List, [], ◌∷◌, ◌++◌, Option, None, Some, drop, filter, map, length, refl, sym, ◌∙◌, ap, subst, append_assoc, arith}
+use Rattle.std.proofs.Common.{◌≡◌, ℕ, zero, suc, ◌+◌, ◌-◌, ◌≤◌, Bool, cond, List, [], ◌∷◌, ◌++◌, drop, filter, map, length, refl, sym, ◌∙◌, ap, subst, append_assoc, arith}
 use Rattle.std.specs.List.{fold, flat_map}
-use Rattle.std.proofs.lemmas.Bool.{cond_both, cases_lt}
+use Rattle.std.proofs.lemmas.Bool.{cond_both}
 use Rattle.std.proofs.lemmas.List.{length-append, length-drop, drop-drop, drop-append-le}
-use Rattle.num_range.specs.declared.space.Space.{Space}
 use Rattle.num_range.specs.declared.space.Space.TheVariants.{Asn, Ipv4, Ipv6}
-use Rattle.num_range.specs.Space.{top_of, width_of}
+use Rattle.num_range.specs.Space.{top_of}
 use Rattle.num_range.specs.Range.{PlainRange, IsRange}
 use Rattle.num_range.specs.Block.{block_size}
 use Rattle.num_range.specs.Cover.{is_cut_length, reverse_cuts}
@@ -20,8 +19,7 @@ use Rattle.reg_entry.specs.declared.object.Act.{Act}
 use Rattle.reg_entry.specs.declared.object.Act.TheVariants.{Add, Del}
 use Rattle.reg_entry.specs.Entry.{PlainEntry}
 use Rattle.reg_entry.specs.Op.{PlainOp}
-use Rattle.reg_entry.specs.Ranges.{AreApart}
-use Rattle.reg_entry.specs.Register.{Register, empty_register, after_entry, after_entries, register_after}
+use Rattle.reg_entry.specs.Register.{Register, after_entry, after_entries, register_after}
 use Rattle.reg_entry.specs.Objects.{key_of, key_before, has_key, with_object, org_of, orgs_of, blocks_of, sub_of, cuts_of, objects_of, objects_gone, objects_come, changes_between}
 use Rattle.reg_entry.specs.Operations.{changes_of, numbered, operations_from, operations_of, PlainBoard, empty_board, last_of, board_after_entry, board_after_entries, board_after}
 use Rattle.reg_entry.specs.Next.{IsNextEntry, IsLegalFrom, IsLegal}

@@ -1,5 +1,5 @@
 -- The cards of the pieces: what each card is stays so for those that are there, and holds of the painted one.
-use Rattle.std.proofs.Common.{◌≡◌, ℕ, ◌+◌, ◌<◌, ◌≤◌, true, cond, nat_lt, ◌==◌, List, [], ◌∷◌, ◌++◌, Option, None, Some, MatchOption, length, refl, subst, arith}
+use Rattle.std.proofs.Common.{ℕ, ◌≤◌, nat_lt, ◌==◌, List, [], ◌∷◌, ◌++◌, Option, None, Some, MatchOption, length, arith}
 use Rattle.std.specs.List.{flat_map}
 use Rattle.std.proofs.lemmas.Bool.{cond_both}
 use Rattle.num_range.specs.declared.space.Space.{Space}
@@ -7,7 +7,7 @@ use Rattle.num_range.specs.Range.{PlainRange}
 use Rattle.reg_entry.specs.declared.card.Card.{Card}
 use Rattle.reg_entry.specs.declared.piece.Piece.{Piece}
 use Rattle.reg_entry.specs.declared.request.Request.{Request}
-use Rattle.reg_entry.specs.declared.request.Request.TheVariants.{Receive, AddHolder, EditHolder, Delegate, Reserve, Unreserve, SubAssign, SubReturn, Return, Release, Split, Join, Transfer, SetReverse, ClearReverse}
+use Rattle.reg_entry.specs.declared.request.Request.TheVariants.{Split, Join}
 use Rattle.reg_entry.specs.Pieces.{part_below, part_above, can_join, joined_pair, joined_after, joined, laid}
 use Rattle.reg_entry.specs.Partition.{Partition, pieces_in, with_pieces}
 use Rattle.reg_entry.specs.Reshaping.{holds_past_first, split_at_number, joined_at_after, joined_at}

@@ -1,12 +1,12 @@
 -- The objects of a whole register have distinct keys, and so the change stream leads from objects to objects.
-use Rattle.std.proofs.Common.{◌≡◌, ℕ, suc, ◌+◌, ◌<◌, ◌≤◌, Bool, true, false, cond, ◌&&◌, ◌==◌, ◌⊎◌, inl, inr, List, [], ◌∷◌, ◌++◌, Option, None, Some, find, map, length, refl, sym, ◌∙◌, ap, subst, arith}
+use Rattle.std.proofs.Common.{◌≡◌, ℕ, suc, ◌+◌, ◌<◌, ◌≤◌, Bool, false, cond, inl, inr, List, [], ◌∷◌, ◌++◌, None, Some, find, map, length, refl, sym, ◌∙◌, ap, subst, arith}
 use Rattle.std.specs.List.{fold, flat_map}
 use Rattle.std.specs.Str.{bytes_eq}
-use Rattle.std.proofs.lemmas.Bool.{cond_both, cond-true, cond-false, cases_Bool, both_ways, and_parts, and_left, and_right, ne_eqb, false_from_ne_true, eqb-true}
+use Rattle.std.proofs.lemmas.Bool.{cond_both, cond-true, cond-false, cases_Bool, both_ways, false_from_ne_true}
 use Rattle.std.proofs.lemmas.Option.{none-some}
 use Rattle.num_range.specs.declared.space.Space.{Space}
 use Rattle.num_range.specs.declared.space.Space.TheVariants.{Asn, Ipv4, Ipv6}
-use Rattle.num_range.specs.Range.{PlainRange, IsRange}
+use Rattle.num_range.specs.Range.{PlainRange}
 use Rattle.num_range.specs.Block.{block_size}
 use Rattle.num_range.specs.Cover.{is_cut_length, reverse_cuts}
 use Rattle.reg_entry.specs.declared.holder.Holder.{Holder}
@@ -14,7 +14,7 @@ use Rattle.reg_entry.specs.declared.piece.Piece.{Piece}
 use Rattle.reg_entry.specs.declared.sub_card.SubCard.{SubCard}
 use Rattle.reg_entry.specs.declared.rooms.Rooms.{Rooms}
 use Rattle.reg_entry.specs.declared.object.Object.{Object}
-use Rattle.reg_entry.specs.declared.object.Object.TheVariants.{Org, Block, Sub, Cut}
+use Rattle.reg_entry.specs.declared.object.Object.TheVariants.{Cut}
 use Rattle.reg_entry.specs.declared.object.Key.{Key}
 use Rattle.reg_entry.specs.declared.object.Key.TheVariants.{Org as OrgKey, Block as BlockKey, Sub as SubKey, Cut as CutKey}
 use Rattle.reg_entry.specs.declared.object.Act.{Act}
@@ -22,20 +22,20 @@ use Rattle.reg_entry.specs.declared.object.Act.TheVariants.{Add, Del}
 use Rattle.reg_entry.specs.Entry.{PlainEntry}
 use Rattle.reg_entry.specs.Op.{PlainOp}
 use Rattle.reg_entry.specs.Pieces.{RisesFrom, AllPiecesOf}
-use Rattle.reg_entry.specs.Ranges.{space_rank, same_space, same_range, IsBelow, AreApart}
+use Rattle.reg_entry.specs.Ranges.{space_rank, same_range, IsBelow, AreApart}
 use Rattle.reg_entry.specs.Holders.{has_handle, HaveDistinctHandles}
 use Rattle.reg_entry.specs.Register.{Register, empty_register, after_entry, after_entries, register_after}
-use Rattle.reg_entry.specs.Objects.{key_of, same_key, has_key, object_at, HaveDistinctKeys, with_object, without_key, key_before, org_of, orgs_of, block_of_piece, blocks_of, sub_of, cuts_of, objects_of, changes_between, changed, played}
+use Rattle.reg_entry.specs.Objects.{key_of, same_key, has_key, object_at, HaveDistinctKeys, with_object, key_before, org_of, orgs_of, block_of_piece, blocks_of, sub_of, cuts_of, objects_of, changed, played}
 use Rattle.reg_entry.specs.Operations.{changes_of, numbered, operations_from, operations_of, change_of, objects_after}
 use Rattle.reg_entry.specs.Next.{IsNextEntry, IsLegalFrom, IsLegal}
 use Rattle.reg_entry.specs.Whole.{IsWholeRegister}
-use Rattle.reg_laws.proofs.Sameness.{same_key-true, same_key-refl, same_range-true, bytes_eq-true, bytes_eq-refl}
+use Rattle.reg_laws.proofs.Sameness.{same_key-true, same_key-refl, same_range-true}
 use Rattle.reg_laws.proofs.Accepting.{map_none}
 use Rattle.reg_laws.proofs.Playing.{object_at-with_object, object_at-without_key, played-append, changes_lead}
 use Rattle.reg_laws.proofs.HolderFacts.{find_rest, other_way}
 use Rattle.reg_laws.proofs.RangeLists.{RisesAfter, apart_parts, below_cases, below_through, below_rank, below_same}
-use Rattle.reg_laws.proofs.ReverseCuts.{IsFoundIn, RiseIn, cuts_rise}
-use Rattle.reg_laws.proofs.WholeStep.{next_whole, empty_is_whole, legal_whole}
+use Rattle.reg_laws.proofs.ReverseCuts.{RiseIn, cuts_rise}
+use Rattle.reg_laws.proofs.WholeStep.{next_whole, empty_is_whole}
 
 -- ---- the parts of the map
 
@@ -98,8 +98,8 @@ still_new os m [] none new = tt
 still_new os m (q ∷ hs) none new =
     let p = find_rest m.0.handle q hs none in (
       object_at-with_object os (org_of m) (OrgKey q.0.handle)
-      ∙ cond-false (bytes_eq m.0.handle q.0.handle) (Some (org_of m)) (object_at os (OrgKey q.0.handle)) (other_way q.0.handle m.0.handle p.0)
-      ∙ new.0,
+          ∙ cond-false (bytes_eq m.0.handle q.0.handle) (Some (org_of m)) (object_at os (OrgKey q.0.handle)) (other_way q.0.handle m.0.handle p.0)
+          ∙ new.0,
       still_new os m hs p.1 new.1,
     )
 
@@ -263,8 +263,8 @@ cuts_then asked P s low end (b ∷ bs) servers rest rises inner behind cuts =
       inner b found.of_space found.begins found.above,
       found.order,
       cuts_then asked (IsBelow b) s (b.last + 1) end bs servers rest rises.1
-      (λ c e h l. below_same b c (ap space_rank found.of_space ∙ sym (ap space_rank e)) (omega arith))
-      (λ c h. ends_by b s c found.of_space found.ends h) cuts,
+          (λ c e h l. below_same b c (ap space_rank found.of_space ∙ sym (ap space_rank e)) (omega arith))
+          (λ c h. ends_by b s c found.of_space found.ends h) cuts,
     )
 
 cuts_of_rising : (q : PlainRange) (ss : List (PlainRange × List (List ℕ))) → RisesAfter q ss → CutsFrom (IsBelow q) (flat_map cuts_of ss)

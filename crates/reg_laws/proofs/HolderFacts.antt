@@ -1,7 +1,7 @@
 -- The number that a handle has, and what a holder more or other fields of one keep.
-use Rattle.std.proofs.Common.{◌≡◌, ℕ, ◌+◌, ◌<◌, ◌≤◌, Bool, true, false, cond, nat_lt, inl, inr, List, [], ◌∷◌, ◌++◌, Option, None, Some, find, map, length, refl, sym, ◌∙◌, ap, subst, arith}
+use Rattle.std.proofs.Common.{◌≡◌, ℕ, ◌+◌, ◌<◌, ◌≤◌, Bool, true, false, cond, nat_lt, inl, inr, List, [], ◌∷◌, ◌++◌, None, Some, find, length, refl, sym, ◌∙◌, ap, subst, arith}
 use Rattle.std.specs.Option.{is_some, option_map}
-use Rattle.std.specs.List.{position_or_len, slice_get}
+use Rattle.std.specs.List.{position_or_len}
 use Rattle.std.specs.Str.{bytes_eq}
 use Rattle.std.proofs.lemmas.Bool.{cond_both, cond-true, cond-false, cases_Bool, both_ways, ltb-true, ltb-false, false_from_ne_true}
 use Rattle.std.proofs.lemmas.List.{length-map}
@@ -89,7 +89,7 @@ pub handles_after_editing : (holder : Holder) (day : ℕ) (hs : List (Holder × 
 handles_after_editing holder day [] h = tt
 handles_after_editing holder day (m ∷ hs) h = (
   subst (λ handle. holder_named (edited_holder hs holder day) handle ≡ None) (sym (handle_of_edited holder day m))
-  (ap (option_map (λ x. x.0)) (find_in_edited m.0.handle holder day hs (map_none (λ x. x.0) (find (has_handle m.0.handle) hs) h.0))),
+      (ap (option_map (λ x. x.0)) (find_in_edited m.0.handle holder day hs (map_none (λ x. x.0) (find (has_handle m.0.handle) hs) h.0))),
   handles_after_editing holder day hs h.1,
 )
 

@@ -1,42 +1,25 @@
 -- A range inside one delegated piece stays inside one of the same status: whatever comes next, unless it is returned or
 -- would be cut.
-use Rattle.std.proofs.Common.{◌≡◌, ℕ, ◌+◌, ◌-◌, ◌%◌, ◌<◌, ◌≤◌, max, Bool, true, false, cond, ◌&&◌, ◌==◌, nat_lt, nat_le, ◌⊎◌, inl, inr, List, [], ◌∷◌, Option, None, Some, refl, sym, ◌∙◌, ap, subst, arith}
-use Rattle.std.specs.Option.{option_map, option_map_or}
-use Rattle.std.specs.List.{list_any}
-use Rattle.std.proofs.lemmas.Bool.{cond-true, cond-false, cases_Bool, cases_lt, both_ways, and_from, and_parts, leb-true, eqb-true, eqb-false, le-leb}
+use Rattle.std.proofs.Common.{◌≡◌, ℕ, ◌+◌, ◌-◌, ◌<◌, ◌≤◌, max, Bool, true, false, ◌&&◌, nat_le, ◌⊎◌, inl, inr, List, [], ◌∷◌, None, Some, refl, sym, ◌∙◌, ap, subst, arith}
+use Rattle.std.proofs.lemmas.Bool.{cases_Bool, cases_lt, both_ways, and_from, le-leb}
 use Rattle.std.proofs.lemmas.Option.{none-some, same_Some}
-use Rattle.num_range.specs.declared.space.Space.{Space}
-use Rattle.num_range.specs.Space.{top_of}
 use Rattle.num_range.specs.Number.{PlainNumber}
 use Rattle.num_range.specs.Range.{PlainRange, IsRange}
 use Rattle.reg_entry.specs.declared.card.Card.{Card}
-use Rattle.reg_entry.specs.declared.card.Status.{Status}
-use Rattle.reg_entry.specs.declared.card.Status.TheVariants.{Available, Reserved, Quarantine, Allocated, Assigned}
 use Rattle.reg_entry.specs.declared.piece.Piece.{Piece}
-use Rattle.reg_entry.specs.declared.refusal.Refusal.TheVariants.{OutsidePool, NotOnePiece, CardsDiffer}
-use Rattle.reg_entry.specs.declared.request.Request.{Request}
-use Rattle.reg_entry.specs.declared.request.Request.TheVariants.{Receive, AddHolder, EditHolder, Delegate, Reserve, Unreserve, SubAssign, SubReturn, Return, Release, Split, Join, Transfer, SetReverse, ClearReverse}
-use Rattle.reg_entry.specs.Card.{is_available, is_delegated, same_status, same_card, plain_card}
-use Rattle.reg_entry.specs.Request.{status_of, amount_size, has_size, is_range, is_request}
-use Rattle.reg_entry.specs.Blocks.{alignment}
+use Rattle.reg_entry.specs.Card.{is_available, is_delegated}
 use Rattle.reg_entry.specs.Pieces.{holds, piece_at, overlap, laid, RisesFrom, IsLeastTaken}
 use Rattle.reg_entry.specs.Partition.{Partition, pieces_in, with_pieces, IsPartition}
 use Rattle.reg_entry.specs.Ranges.{same_space, lies_inside, range_holds}
 use Rattle.reg_entry.specs.Reshaping.{split_at_number, joined_at}
-use Rattle.reg_entry.specs.Holders.{holder_number}
-use Rattle.reg_entry.specs.Register.{Register, register_pieces, piece_of, painted, pool_after}
-use Rattle.reg_entry.specs.Covers.{first_number, number_before, range_from, cover_for, card_for, holder_card, kept_card}
-use Rattle.reg_entry.specs.Decision.{first_of, outside_unicast, already_pooled, outside_pool, number_outside_pool, begins_space, begins_no_piece, not_in_one_piece, not_one_piece, wrong_status, is_status, cards_differ, early_rules}
-use Rattle.reg_entry.specs.Next.{block_may_be, is_free_block, has_free}
+use Rattle.reg_entry.specs.Covers.{number_before}
 use Rattle.reg_entry.proofs.Holding.{holds_true, holds_from, not_held_above, piece_at-first, piece_at-rest, piece_at-below}
 use Rattle.reg_entry.proofs.Overlaps.{overlap_is_least}
 use Rattle.reg_laws.specs.Reshaping.{CanJoinAt}
-use Rattle.reg_laws.proofs.Sameness.{same_space-true, same_space-refl, same_status-true, same_card-true}
-use Rattle.reg_laws.proofs.Accepting.{or_none, refuse_if_none, map_none, range_valid}
-use Rattle.reg_laws.proofs.NextFacts.{IsInPiece, IsOnePiece, one_is_inside, right_status, number_in_pool, allowed_if, on_the_piece, free_piece}
-use Rattle.reg_laws.proofs.Painted.{IsConserved}
-use Rattle.reg_laws.proofs.Conserving.{by_request, not_available, in_one, all_one, rules_behind}
-use Rattle.reg_laws.proofs.Parts.{HasPart, IsIn, inside_last, part_laid_apart, part_split, part_joined_at, in_changed, in_painted}
+use Rattle.reg_laws.proofs.Sameness.{same_space-true, same_space-refl}
+use Rattle.reg_laws.proofs.NextFacts.{IsInPiece, IsOnePiece, one_is_inside}
+use Rattle.reg_laws.proofs.Conserving.{not_available}
+use Rattle.reg_laws.proofs.Parts.{IsIn, inside_last, part_laid_apart, part_split, part_joined_at, in_changed, in_painted}
 
 -- the range lies inside one piece, whose status is the card's
 pub record IsKept (pool : Partition) (s : PlainRange) (c : Card) : Type 0 where

@@ -1,27 +1,27 @@
 -- What lies inside one piece stays inside one piece with the same card: where a painting doesn't meet it, where a split
 -- doesn't cut it, and where pieces are joined.
-use Rattle.std.proofs.Common.{◌≡◌, ℕ, ◌+◌, ◌-◌, ◌<◌, ◌≤◌, min, max, true, false, cond, ◌&&◌, nat_lt, nat_le, ◌⊎◌, inl, inr, List, [], ◌∷◌, ◌++◌, Option, None, Some, refl, sym, ◌∙◌, ap, subst, arith}
+use Rattle.std.proofs.Common.{◌≡◌, ℕ, ◌+◌, ◌<◌, ◌≤◌, true, false, ◌&&◌, nat_lt, nat_le, ◌⊎◌, inl, inr, List, [], ◌∷◌, ◌++◌, Some, refl, sym, ◌∙◌, ap, subst, arith}
 use Rattle.std.specs.List.{flat_map}
-use Rattle.std.proofs.lemmas.Bool.{cond_both, cond-true, cond-false, cases_Bool, cases_lt, both_ways, and_from, and_parts, ltb-true, ltb-false, leb-true, le-leb, lt-ltb}
+use Rattle.std.proofs.lemmas.Bool.{cond_both, cond-true, cases_Bool, both_ways, and_from, and_parts, ltb-false, leb-true, le-leb}
 use Rattle.std.proofs.lemmas.Option.{none-some, same_Some}
 use Rattle.num_range.specs.declared.space.Space.{Space}
 use Rattle.num_range.specs.Range.{PlainRange}
 use Rattle.reg_entry.specs.declared.card.Card.{Card}
 use Rattle.reg_entry.specs.declared.piece.Piece.{Piece}
 use Rattle.reg_entry.specs.Card.{is_available}
-use Rattle.reg_entry.specs.Pieces.{holds, piece_at, part_below, part_above, can_join, joined_pair, joined_after, joined, laid, RisesFrom, ArePieces}
+use Rattle.reg_entry.specs.Pieces.{holds, piece_at, part_below, part_above, can_join, joined_pair, joined_after, joined, laid, RisesFrom}
 use Rattle.reg_entry.specs.Partition.{Partition, pieces_in, with_pieces, IsPartition}
 use Rattle.reg_entry.specs.Ranges.{same_space, lies_inside}
 use Rattle.reg_entry.specs.Reshaping.{holds_past_first, split_at_number, joined_at_after, joined_at}
 use Rattle.reg_entry.specs.Register.{piece_of}
 use Rattle.reg_entry.specs.Covers.{first_number}
-use Rattle.reg_entry.proofs.Holding.{holds_true, holds_from, piece_at-first, piece_at-rest, piece_at-below}
+use Rattle.reg_entry.proofs.Holding.{holds_true, holds_from, piece_at-first, piece_at-rest}
 use Rattle.reg_entry.proofs.Joining.{can_join_true}
 use Rattle.reg_entry.proofs.Laying.{kept_below, kept_above, painted_parts, painted_parts_rise}
 use Rattle.reg_laws.specs.Reshaping.{CanJoinAt}
 use Rattle.reg_laws.proofs.Sameness.{same_space-refl, same_space-true}
 use Rattle.reg_laws.proofs.Painted.{pieces_in-with, with_pieces_has, piece_is_of}
-use Rattle.reg_laws.proofs.Reshaped.{IsMeeting, join_cases, join_first, join_rest, left_part, right_part}
+use Rattle.reg_laws.proofs.Reshaped.{join_cases, join_first, join_rest, left_part, right_part}
 
 -- ---- in a list
 

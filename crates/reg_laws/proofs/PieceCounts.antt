@@ -1,5 +1,5 @@
 -- How many pieces there are: no more after a joining, and after exactly one piece was painted.
-use Rattle.std.proofs.Common.{◌≡◌, ℕ, suc, ◌+◌, ◌-◌, ◌<◌, ◌≤◌, true, false, cond, nat_lt, ◌==◌, inl, inr, List, [], ◌∷◌, ◌++◌, Option, None, Some, length, refl, sym, ◌∙◌, ap, subst, arith}
+use Rattle.std.proofs.Common.{◌≡◌, ℕ, suc, ◌+◌, ◌≤◌, nat_lt, ◌==◌, inl, inr, List, [], ◌∷◌, ◌++◌, Some, length, refl, sym, ◌∙◌, ap, subst, arith}
 use Rattle.std.specs.List.{flat_map}
 use Rattle.std.proofs.lemmas.Bool.{cond_both, cases_Bool, le-ltb, cond-false}
 use Rattle.std.proofs.lemmas.List.{length-append}
@@ -12,7 +12,7 @@ use Rattle.reg_entry.specs.declared.piece.Piece.{Piece}
 use Rattle.reg_entry.specs.Pieces.{holds, piece_at, part_below, part_above, can_join, joined_pair, joined_after, joined, laid, RisesFrom}
 use Rattle.reg_entry.specs.Partition.{Partition, pieces_in, with_pieces, piece_count}
 use Rattle.reg_entry.specs.Reshaping.{joined_at_after, joined_at}
-use Rattle.reg_entry.proofs.Holding.{holds_true, piece_at-first, piece_at-rest}
+use Rattle.reg_entry.proofs.Holding.{piece_at-first, piece_at-rest}
 use Rattle.reg_entry.proofs.Laying.{kept_below, kept_above, painted_parts}
 
 -- ---- joining

@@ -1,11 +1,11 @@
 -- Lists of ranges with a value: what a change of the list keeps.
-use Rattle.std.proofs.Common.{◌≡◌, ℕ, suc, ◌+◌, ◌<◌, ◌≤◌, Bool, true, false, cond, not, ◌&&◌, ◌||◌, ◌==◌, nat_lt, nat_le, ◌⊎◌, inl, inr, List, [], ◌∷◌, Option, None, Some, filter, find, length, refl, sym, ◌∙◌, ap, subst, arith}
+use Rattle.std.proofs.Common.{◌≡◌, ℕ, suc, ◌+◌, ◌<◌, ◌≤◌, Bool, true, false, cond, not, ◌&&◌, ◌||◌, ◌==◌, nat_lt, nat_le, ◌⊎◌, inl, inr, List, [], ◌∷◌, None, Some, filter, find, length, refl, sym, ◌∙◌, ap, subst, arith}
 use Rattle.std.specs.Option.{is_some, option_map}
-use Rattle.std.proofs.lemmas.Bool.{cond_both, cond-true, cond-false, cases_Bool, cases_lt, cases_order, both_ways, or_cases, or_left, or_right, and_parts, and_from, ltb-true, eqb-true, lt-ltb, eq-eqb, not_from_false, false_from_ne_true}
+use Rattle.std.proofs.lemmas.Bool.{cond_both, cond-true, cond-false, cases_Bool, both_ways, or_cases, or_left, or_right, and_parts, and_from, ltb-true, eqb-true, lt-ltb, eq-eqb}
 use Rattle.std.proofs.lemmas.Bool.Decides.{nat_tests}
-use Rattle.std.proofs.lemmas.Option.{none-some, same_Some}
+use Rattle.std.proofs.lemmas.Option.{none-some}
 use Rattle.num_range.specs.Range.{PlainRange, IsRange}
-use Rattle.reg_entry.specs.Ranges.{space_rank, same_space, same_range, range_before, ranges_meet, IsBelow, value_of_range, first_meeting, with_range, AreApart}
+use Rattle.reg_entry.specs.Ranges.{space_rank, same_space, same_range, range_before, ranges_meet, IsBelow, value_of_range, with_range, AreApart}
 use Rattle.reg_laws.proofs.Sameness.{same_range-true}
 
 -- ---- facts of each, and tests that none passes

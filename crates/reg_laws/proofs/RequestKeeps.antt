@@ -1,24 +1,22 @@
 -- What each request keeps, by the rules that stand against it: the ranges inside delegated pieces, what a card is, and the
 -- room of the pieces.
-use Rattle.std.proofs.Common.{◌≡◌, ℕ, ◌+◌, ◌-◌, ◌%◌, ◌<◌, ◌≤◌, Bool, true, false, cond, not, ◌&&◌, ◌==◌, nat_lt, nat_le, List, [], ◌∷◌, Option, None, Some, MatchOption, filter, find, length, refl, sym, ◌∙◌, ap, subst, arith}
+use Rattle.std.proofs.Common.{◌≡◌, ℕ, ◌+◌, ◌-◌, ◌%◌, ◌<◌, ◌≤◌, Bool, true, false, ◌&&◌, ◌==◌, nat_lt, nat_le, List, Option, None, Some, MatchOption, length, refl, sym, ◌∙◌, ap, subst, arith}
 use Rattle.std.specs.Option.{is_some, option_map, option_map_or}
 use Rattle.std.specs.List.{list_any}
 use Rattle.std.proofs.lemmas.Bool.{both_ways, and_parts, ltb-false, leb-true}
 use Rattle.num_range.specs.declared.space.Space.{Space}
 use Rattle.num_range.specs.Space.{top_of}
-use Rattle.num_range.specs.Number.{PlainNumber}
 use Rattle.num_range.specs.Range.{PlainRange}
 use Rattle.reg_entry.specs.declared.card.Card.{Card}
 use Rattle.reg_entry.specs.declared.card.Status.{Status}
 use Rattle.reg_entry.specs.declared.card.Status.TheVariants.{Available, Reserved, Quarantine, Allocated, Assigned}
 use Rattle.reg_entry.specs.declared.piece.Piece.{Piece}
-use Rattle.reg_entry.specs.declared.refusal.Refusal.{Refusal}
 use Rattle.reg_entry.specs.declared.refusal.Refusal.TheVariants.{UnknownHolder, RegisterFull}
 use Rattle.reg_entry.specs.declared.request.Delegation.{Delegation}
 use Rattle.reg_entry.specs.declared.request.Delegation.TheVariants.{Allocate, Assign}
 use Rattle.reg_entry.specs.declared.request.Request.{Request}
-use Rattle.reg_entry.specs.declared.request.Request.TheVariants.{Receive, AddHolder, EditHolder, Delegate, Reserve, Unreserve, SubAssign, SubReturn, Return, Release, Split, Join, Transfer, SetReverse, ClearReverse}
-use Rattle.reg_entry.specs.Card.{is_available, is_delegated, plain_card, same_status}
+use Rattle.reg_entry.specs.declared.request.Request.TheVariants.{Receive, Delegate, Reserve, Unreserve, Return, Release, Split, Join, Transfer}
+use Rattle.reg_entry.specs.Card.{is_available, is_delegated, plain_card}
 use Rattle.reg_entry.specs.Request.{status_of, amount_size, has_size, is_request}
 use Rattle.reg_entry.specs.Blocks.{alignment}
 use Rattle.reg_entry.specs.Days.{last_date}
@@ -29,14 +27,13 @@ use Rattle.reg_entry.specs.Ranges.{lies_inside}
 use Rattle.reg_entry.specs.Reshaping.{split_at_number, joined_at}
 use Rattle.reg_entry.specs.Register.{Register, register_pieces, piece_of, painted, pool_after}
 use Rattle.reg_entry.specs.Covers.{first_number, range_from, cover_for, card_for, holder_card, kept_card}
-use Rattle.reg_entry.specs.Decision.{first_of, outside_unicast, already_pooled, outside_pool, not_in_one_piece, not_one_piece, wrong_status, is_status, unknown_holder, no_block, register_full, has_subs, not_due, within_hold_time, straddled, early_rules, late_rules}
+use Rattle.reg_entry.specs.Decision.{first_of, outside_unicast, already_pooled, outside_pool, not_in_one_piece, not_one_piece, wrong_status, is_status, unknown_holder, no_block, register_full, straddled, early_rules, late_rules}
 use Rattle.reg_entry.specs.Next.{block_may_be, is_free_block, has_free, until_may_be}
 use Rattle.reg_entry.specs.Whole.{IsHolderNumber, IsCardIn}
 use Rattle.reg_laws.proofs.Sameness.{same_status-true}
 use Rattle.reg_laws.proofs.Accepting.{or_none, refuse_if_none, map_none, range_valid}
 use Rattle.reg_laws.proofs.NextFacts.{IsInPiece, IsOnePiece, one_is_inside, right_status, allowed_if, free_piece}
-use Rattle.reg_laws.proofs.Painted.{IsConserved}
-use Rattle.reg_laws.proofs.Conserving.{by_request, not_available, in_one, all_one, rules_behind, can_be_joined}
+use Rattle.reg_laws.proofs.Conserving.{not_available, in_one, all_one, rules_behind, can_be_joined}
 use Rattle.reg_laws.proofs.HolderFacts.{number_is_there}
 use Rattle.reg_laws.proofs.PieceCounts.{length_laid, length_joined_at, count_with}
 use Rattle.reg_laws.proofs.Keeping.{Keeps, keeps_same, keeps_received, keeps_free, keeps_returned, keeps_transferred, straddles, keeps_split, keeps_join}

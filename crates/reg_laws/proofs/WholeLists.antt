@@ -1,33 +1,30 @@
 -- Sub-assignments and reverse entries after an entry: each lies where it may, they are apart, and there is room for them.
-use Rattle.std.proofs.Common.{◌≡◌, ℕ, ◌+◌, ◌<◌, ◌≤◌, max, Bool, true, false, cond, not, ◌&&◌, nat_lt, nat_le, ◌⊎◌, inl, inr, List, [], ◌∷◌, Option, None, Some, filter, find, length, refl, sym, ◌∙◌, ap, subst, arith}
+use Rattle.std.proofs.Common.{◌≡◌, ℕ, ◌+◌, ◌<◌, ◌≤◌, Bool, true, false, not, ◌&&◌, nat_lt, nat_le, ◌⊎◌, inl, inr, List, [], ◌∷◌, Option, None, Some, filter, find, length, refl, sym, ◌∙◌, ap, subst, arith}
 use Rattle.std.specs.Option.{is_some, option_or, option_map, IsSomeAnd}
-use Rattle.std.proofs.lemmas.Bool.{cases_Bool, both_ways, and_parts, and_right, ltb-false, leb-true, leb-false, not-true}
-use Rattle.num_range.specs.declared.space.Space.{Space}
+use Rattle.std.proofs.lemmas.Bool.{and_parts, and_right, ltb-false, leb-true, leb-false, not-true}
 use Rattle.num_range.specs.Number.{PlainNumber}
 use Rattle.num_range.specs.Range.{PlainRange, IsRange}
 use Rattle.reg_entry.specs.declared.card.Card.{Card}
 use Rattle.reg_entry.specs.declared.card.Status.{Status}
 use Rattle.reg_entry.specs.declared.card.Status.TheVariants.{Allocated}
-use Rattle.reg_entry.specs.declared.holder.Holder.{Holder}
 use Rattle.reg_entry.specs.declared.piece.Piece.{Piece}
-use Rattle.reg_entry.specs.declared.refusal.Refusal.{Refusal}
 use Rattle.reg_entry.specs.declared.refusal.Refusal.TheVariants.{NotOnePiece, Overlap, Straddled, HasSubs, SubsFull, ReverseFull, NoReverseSpace}
 use Rattle.reg_entry.specs.declared.request.Request.{Request}
-use Rattle.reg_entry.specs.declared.request.Request.TheVariants.{Receive, AddHolder, EditHolder, Delegate, Reserve, Unreserve, SubAssign, SubReturn, Return, Release, Split, Join, Transfer, SetReverse, ClearReverse}
+use Rattle.reg_entry.specs.declared.request.Request.TheVariants.{SubAssign, SubReturn, Return, Split, SetReverse, ClearReverse}
 use Rattle.reg_entry.specs.declared.sub_card.SubCard.{SubCard}
 use Rattle.reg_entry.specs.Card.{is_delegated}
 use Rattle.reg_entry.specs.Request.{is_range, are_servers, is_request}
 use Rattle.reg_entry.specs.Holders.{holder_number}
-use Rattle.reg_entry.specs.Ranges.{same_range, lies_inside, ranges_meet, ranges_inside, value_of_range, first_meeting, with_range, without_range, without_inside, AreApart}
+use Rattle.reg_entry.specs.Ranges.{same_range, lies_inside, ranges_meet, ranges_inside, value_of_range, first_meeting, without_range, AreApart}
 use Rattle.reg_entry.specs.Register.{Register, piece_of, with_sub, subs_after, reverses_after}
 use Rattle.reg_entry.specs.Covers.{first_number}
-use Rattle.reg_entry.specs.Decision.{first_of, refuse_if, outside_pool, not_in_one_piece, wrong_status, is_status, unknown_holder, first_common, meets_sub, meets_reverse, journal_full, subs_full, has_subs, straddling, straddled, of_asn, no_reverse_space, reverse_full, register_full, early_rules, late_rules}
+use Rattle.reg_entry.specs.Decision.{first_of, outside_pool, not_in_one_piece, wrong_status, is_status, unknown_holder, first_common, meets_sub, meets_reverse, journal_full, subs_full, has_subs, straddling, straddled, of_asn, no_reverse_space, reverse_full, early_rules, late_rules}
 use Rattle.reg_entry.specs.Whole.{IsDayIn, piece_round, HasRange, IsSubIn, AreSubsIn, IsReverseIn, AreReversesIn, IsHolderNumber}
 use Rattle.reg_laws.proofs.Sameness.{same_status-true}
 use Rattle.reg_laws.proofs.Accepting.{or_none, refuse_if_none, map_none, range_valid, first_in_pool}
 use Rattle.reg_laws.proofs.NextFacts.{some_piece, on_the_piece, allowed_if, right_status}
 use Rattle.reg_laws.proofs.Parts.{IsIn}
-use Rattle.reg_laws.proofs.Keeping.{Keeps, IsKept, straddles}
+use Rattle.reg_laws.proofs.Keeping.{Keeps, straddles}
 use Rattle.reg_laws.proofs.RequestKeeps.{touches, known_number}
 use Rattle.reg_laws.proofs.RangeLists.{AllOf, NoneIs, all_and, all_moved, none_at_all, none_found, none_left, none_of_both, all_with, all_filtered, ranges_of_apart, apart_filter, apart_with, meets_other, length_with, length_filter, length_with_other}
 

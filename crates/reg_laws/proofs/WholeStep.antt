@@ -1,5 +1,5 @@
 -- Each entry that may come next keeps a register whole, and so does each legal list.
-use Rattle.std.proofs.Common.{◌≡◌, ℕ, ◌+◌, ◌<◌, ◌≤◌, Bool, true, false, cond, not, ◌&&◌, ◌==◌, nat_le, List, [], ◌∷◌, Option, None, Some, MatchOption, find, length, refl, sym, ◌∙◌, ap, subst, arith}
+use Rattle.std.proofs.Common.{◌≡◌, ℕ, ◌+◌, ◌<◌, ◌≤◌, Bool, true, cond, ◌&&◌, ◌==◌, nat_le, List, [], ◌∷◌, Option, None, MatchOption, length, sym, subst, arith}
 use Rattle.std.specs.Option.{is_some}
 use Rattle.std.proofs.lemmas.Bool.{cond_both, and_parts, leb-true, leb-false}
 use Rattle.num_range.specs.declared.space.Space.{Space}
@@ -12,18 +12,16 @@ use Rattle.reg_entry.specs.declared.refusal.Refusal.TheVariants.{HandleTaken, Ho
 use Rattle.reg_entry.specs.declared.request.Request.{Request}
 use Rattle.reg_entry.specs.declared.request.Request.TheVariants.{Receive, AddHolder, EditHolder, Delegate, Reserve, Unreserve, SubAssign, SubReturn, Return, Release, Split, Join, Transfer, SetReverse, ClearReverse}
 use Rattle.reg_entry.specs.Entry.{PlainEntry}
-use Rattle.reg_entry.specs.Request.{is_request}
 use Rattle.reg_entry.specs.Days.{last_date}
 use Rattle.reg_entry.specs.Holders.{holder_number, HaveDistinctHandles}
-use Rattle.reg_entry.specs.Partition.{IsPartition, pieces_in, piece_count}
-use Rattle.reg_entry.specs.Register.{Register, register_pieces, pool_after, holders_after, subs_after, reverses_after, after_entry, after_entries, empty_register, register_after}
+use Rattle.reg_entry.specs.Partition.{piece_count}
+use Rattle.reg_entry.specs.Register.{Register, register_pieces, pool_after, holders_after, after_entry, after_entries, empty_register, register_after}
 use Rattle.reg_entry.specs.Covers.{cover_for, card_for}
-use Rattle.reg_entry.specs.Decision.{first_of, handle_taken, holders_full, journal_full, straddled, register_full, no_block, has_subs, not_due, within_hold_time, no_reverse_space, reverse_full, subs_full, early_rules, late_rules}
-use Rattle.reg_entry.specs.Next.{start_of, until_of, until_may_be, block_may_be, IsNextEntry, IsLegalFrom, IsLegal}
-use Rattle.reg_entry.specs.Whole.{IsCardIn, HaveCardsIn, IsDayIn, HaveDaysIn, AreWithinRooms, IsWholeRegister}
+use Rattle.reg_entry.specs.Decision.{first_of, handle_taken, holders_full, journal_full, straddled, register_full, no_block, has_subs, not_due, within_hold_time, no_reverse_space, early_rules, late_rules}
+use Rattle.reg_entry.specs.Next.{start_of, until_of, IsNextEntry, IsLegalFrom, IsLegal}
+use Rattle.reg_entry.specs.Whole.{IsCardIn, HaveCardsIn, IsDayIn, HaveDaysIn, IsWholeRegister}
 use Rattle.reg_laws.proofs.Accepting.{or_none, refuse_if_none}
-use Rattle.reg_laws.proofs.NextFacts.{NextFacts, next_facts}
-use Rattle.reg_laws.proofs.Painted.{IsConserved}
+use Rattle.reg_laws.proofs.NextFacts.{next_facts}
 use Rattle.reg_laws.proofs.Conserving.{by_request, next_conserves, legal_partition}
 use Rattle.reg_laws.proofs.HolderFacts.{none_with_handle, handles_after_adding, handles_after_editing, days_moved, days_after_adding, days_after_editing, length_added, length_edited}
 use Rattle.reg_laws.proofs.CardFacts.{cards_moved, cards_after}
