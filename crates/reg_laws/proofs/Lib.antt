@@ -18,3 +18,4 @@ pub mod WholeStep
 pub mod ReverseCuts
 pub mod DistinctKeys
 pub mod Boards
+pub mod Narrowing

@@ -1,2 +1,3 @@
 pub mod Reshaping
 pub mod Missing
+pub mod Narrowest

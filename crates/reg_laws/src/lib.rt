@@ -3,6 +3,7 @@
 
 pub mod board;
 pub mod conservation;
+pub mod narrowest;
 pub mod next;
 pub mod objects;
 pub mod pieces;
