@@ -40,17 +40,17 @@ use Rattle.reg_laws.proofs.WholeStep.{next_whole, empty_is_whole}
 -- ---- the parts of the map
 
 -- the part of the map where a key's object stands: holders, the pieces of each space, subs, reverse cuts
-abbrev part_of : Key → ℕ
+abbrev pub part_of : Key → ℕ
 part_of (OrgKey handle) = 0
 part_of (BlockKey range) = suc (space_rank range.space)
 part_of (SubKey range) = 4
 part_of (CutKey range) = 5
 
-abbrev AllBefore : ℕ → List Object → Type 0
+abbrev pub AllBefore : ℕ → List Object → Type 0
 AllBefore n [] = Unit {0}
 AllBefore n (o ∷ os) = (part_of (key_of o) < n) × AllBefore n os
 
-abbrev AllIn : ℕ → List Object → Type 0
+abbrev pub AllIn : ℕ → List Object → Type 0
 AllIn n [] = Unit {0}
 AllIn n (o ∷ os) = (part_of (key_of o) ≡ n) × AllIn n os
 
@@ -76,7 +76,7 @@ distinct_append n [] ps before all h k = k
 distinct_append n (o ∷ os) ps before all h k =
     (none_in_both os ps (key_of o) h.0 (none_of_part n ps (key_of o) before.0 all), distinct_append n os ps before.1 all h.1 k)
 
-before_append : (n m k : ℕ) (os ps : List Object) → n ≤ m → k < m → AllBefore n os → AllIn k ps → AllBefore m (os ++ ps)
+pub before_append : (n m k : ℕ) (os ps : List Object) → n ≤ m → k < m → AllBefore n os → AllIn k ps → AllBefore m (os ++ ps)
 before_append n m k [] [] h g before all = tt
 before_append n m k [] (p ∷ ps) h g before all = (let e = all.0 in omega arith, before_append n m k [] ps h g tt all.1)
 before_append n m k (o ∷ os) ps h g before all = (let e = before.0 in omega arith, before_append n m k os ps h g before.1 all)
@@ -141,11 +141,11 @@ orgs_distinct os (m ∷ hs) h new handles =
     orgs_distinct (with_object os (org_of m)) hs (distinct_with os (org_of m) new.0 h)
     (still_new os m hs (map_none (λ x. x.0) (find (has_handle m.0.handle) hs) handles.0) new.1) handles.1
 
-orgs_in : (os : List Object) (hs : List (Holder × ℕ)) → AllIn 0 os → AllIn 0 (fold with_object os (map org_of hs))
+pub orgs_in : (os : List Object) (hs : List (Holder × ℕ)) → AllIn 0 os → AllIn 0 (fold with_object os (map org_of hs))
 orgs_in os [] h = h
 orgs_in os (m ∷ hs) h = orgs_in (with_object os (org_of m)) hs (in_with 0 os (org_of m) refl h)
 
-before_next : (n : ℕ) (os : List Object) → AllIn n os → AllBefore (n + 1) os
+pub before_next : (n : ℕ) (os : List Object) → AllIn n os → AllBefore (n + 1) os
 before_next n [] h = tt
 before_next n (o ∷ os) h = (let e = h.0 in omega arith, before_next n os h.1)
 
@@ -169,7 +169,7 @@ blocks_distinct hs low (p ∷ ps) rises = (
   blocks_distinct hs (p.range.last + 1) ps rises.2,
 )
 
-blocks_in : (hs : List (Holder × ℕ)) (space : Space) (ps : List Piece) → AllPiecesOf space ps → AllIn (suc (space_rank space)) (blocks_of hs ps)
+pub blocks_in : (hs : List (Holder × ℕ)) (space : Space) (ps : List Piece) → AllPiecesOf space ps → AllIn (suc (space_rank space)) (blocks_of hs ps)
 blocks_in hs space [] h = tt
 blocks_in hs space (p ∷ ps) h = (ap (λ s. suc (space_rank s)) h.0.of_space, blocks_in hs space ps h.1)
 
@@ -202,18 +202,18 @@ apart_subs_distinct hs [] h = tt
 apart_subs_distinct hs (s ∷ ss) h =
     let parts = apart_parts s ss h in (no_sub_below hs s.0 ss parts.0.0 parts.1, subs_distinct hs s.0 ss parts.1)
 
-subs_in_part : (hs : List (Holder × ℕ)) (ss : List (PlainRange × SubCard)) → AllIn 4 (map (sub_of hs) ss)
+pub subs_in_part : (hs : List (Holder × ℕ)) (ss : List (PlainRange × SubCard)) → AllIn 4 (map (sub_of hs) ss)
 subs_in_part hs [] = tt
 subs_in_part hs (s ∷ ss) = (refl, subs_in_part hs ss)
 
 -- ---- reverse cuts
 
 -- the cuts rise, and the first has this property
-abbrev CutsFrom : (PlainRange → Type 0) → List Object → Type 0
+abbrev pub CutsFrom : (PlainRange → Type 0) → List Object → Type 0
 CutsFrom P [] = Unit {0}
 CutsFrom P (o ∷ os) = (b : PlainRange) × (key_of o ≡ CutKey b) × P b × (b.first ≤ b.last) × CutsFrom (IsBelow b) os
 
-cuts_from_other : (P Q : PlainRange → Type 0) (os : List Object) → ((b : PlainRange) → P b → Q b) → CutsFrom P os → CutsFrom Q os
+pub cuts_from_other : (P Q : PlainRange → Type 0) (os : List Object) → ((b : PlainRange) → P b → Q b) → CutsFrom P os → CutsFrom Q os
 cuts_from_other P Q [] h cuts = tt
 cuts_from_other P Q (o ∷ os) h cuts = (cuts.0, cuts.1, h cuts.0 cuts.2, cuts.3, cuts.4)
 
@@ -229,7 +229,7 @@ cuts_distinct P [] cuts = tt
 cuts_distinct P (o ∷ os) cuts =
     (ap (object_at os) cuts.1 ∙ no_cut_below cuts.0 os cuts.3 cuts.4, cuts_distinct (IsBelow cuts.0) os cuts.4)
 
-cuts_in : (P : PlainRange → Type 0) (os : List Object) → CutsFrom P os → AllIn 5 os
+pub cuts_in : (P : PlainRange → Type 0) (os : List Object) → CutsFrom P os → AllIn 5 os
 cuts_in P [] cuts = tt
 cuts_in P (o ∷ os) cuts = (ap part_of cuts.1, cuts_in (IsBelow cuts.0) os cuts.4)
 
@@ -273,7 +273,7 @@ cuts_of_rising q (s ∷ ss) h =
     cuts_then (is_cut_length s.0.space) (IsBelow q) s.0 0 (block_size s.0.space 0) (reverse_cuts s.0) s.1 (flat_map cuts_of ss) (cuts_rise s.0)
     (λ b e k l. starts_behind q s.0 b e k h.0) (λ c k. below_through q s.0 c h.0 h.1.0 k) (cuts_of_rising s.0 ss h.2)
 
-cuts_of_apart : (ss : List (PlainRange × List (List ℕ))) → AreApart ss → CutsFrom (λ b. Unit {0}) (flat_map cuts_of ss)
+pub cuts_of_apart : (ss : List (PlainRange × List (List ℕ))) → AreApart ss → CutsFrom (λ b. Unit {0}) (flat_map cuts_of ss)
 cuts_of_apart [] h = tt
 cuts_of_apart (s ∷ ss) h =
     cuts_then (is_cut_length s.0.space) (λ b. Unit {0}) s.0 0 (block_size s.0.space 0) (reverse_cuts s.0) s.1 (flat_map cuts_of ss) (cuts_rise s.0)
@@ -318,7 +318,7 @@ next_changes_lead r e k h next =
     changes_lead (objects_of r) (objects_of (after_entry r e)) k (whole_is_distinct (after_entry r e) (next_whole r e h next))
 
 -- the maps give each key the same object
-abbrev AreAlike : List Object → List Object → Type 0
+abbrev pub AreAlike : List Object → List Object → Type 0
 AreAlike os ps = (k : Key) → object_at os k ≡ object_at ps k
 
 changed_alike : (os ps : List Object) (c : Act × Object) → AreAlike os ps → AreAlike (changed os c) (changed ps c)

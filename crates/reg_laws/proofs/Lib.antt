@@ -19,3 +19,4 @@ pub mod ReverseCuts
 pub mod DistinctKeys
 pub mod Boards
 pub mod Narrowing
+pub mod RisingKeys
