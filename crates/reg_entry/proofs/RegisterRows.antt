@@ -26,6 +26,7 @@ use Rattle.reg_entry.specs.declared.found.Found.{Found}
 use Rattle.reg_entry.specs.declared.found.Found.TheVariants.{Piece as ThePiece, Sub as TheSub}
 use Rattle.reg_entry.specs.Entry.{PlainEntry}
 use Rattle.reg_entry.specs.Op.{PlainOp}
+use Rattle.reg_entry.specs.Request.{is_request}
 use Rattle.reg_entry.specs.Policy.{PlainPolicy, PlainRows}
 use Rattle.reg_entry.specs.Entries.{last_card}
 use Rattle.reg_entry.specs.Register.{Register, empty_register, after_entry, register_after, card_of}
@@ -264,6 +265,18 @@ hold_time :
     ∷ (20148, Transfer (net 0 63) b a) ∷ [])
     ≡ ok 0 63 ∷ refused (HoldTime 20148) ∷ refused (HoldTime 20148) ∷ ok 0 63 ∷ []
 hold_time = refl
+
+-- ---- name servers
+
+abbrev server : List ℕ
+server = codes "ns1.a.example"
+
+-- a reverse entry of none is no request, nor is one of five
+one_to_four_servers :
+    map (λ servers. is_request (SetReverse (net 0 255) servers))
+    ([] ∷ (server ∷ []) ∷ (server ∷ server ∷ server ∷ server ∷ []) ∷ (server ∷ server ∷ server ∷ server ∷ server ∷ []) ∷ [])
+    ≡ false ∷ true ∷ true ∷ false ∷ []
+one_to_four_servers = refl
 
 -- ---- reverse cuts
 
