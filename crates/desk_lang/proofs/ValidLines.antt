@@ -1,5 +1,5 @@
 -- What a line names is of its space.
-use Rattle.std.proofs.Common.{◌≡◌, ℕ, Bool, true, false, cond, List, [], ◌∷◌, Option, None, Some, Result, Ok, Err, refl}
+use Rattle.std.proofs.Common.{◌≡◌, ℕ, zero, suc, ◌+◌, ◌≤◌, ◌++◌, length-append, lit≤, arith, Bool, true, false, cond, List, [], ◌∷◌, Option, None, Some, Result, Ok, Err, refl}
 use Rattle.std.specs.Prelude.{MatchOption, IfSome, IfOk, nat_le, nat_lt, length, if◌then◌else◌}
 use Rattle.std.specs.Option.{option_and_then}
 use Rattle.std.proofs.lemmas.Bool.{le-leb, and_from}
@@ -14,7 +14,8 @@ use Rattle.addr_text.proofs.Computed.{number_spelled, range_spelled}
 use Rattle.addr_text.proofs.Valid.{number_valid, range_valid}
 use Rattle.reg_entry.specs.declared.request.Request.{Request as ARequest}
 use Rattle.reg_entry.specs.declared.request.Request.TheVariants.{SetReverse}
-use Rattle.reg_entry.specs.Request.{has_size, is_range, is_number, is_request}
+use Rattle.reg_entry.specs.Host.{is_host}
+use Rattle.reg_entry.specs.Request.{has_size, is_range, is_number, are_servers, is_request}
 use Rattle.desk_lang.specs.declared.line.Line.{Line}
 use Rattle.desk_lang.specs.declared.line.Line.TheVariants.{Due, Nothing}
 use Rattle.desk_lang.specs.declared.verb.Verb.{Verb}
@@ -23,7 +24,7 @@ use Rattle.desk_lang.specs.declared.rest.Form.{Form}
 use Rattle.desk_lang.specs.declared.rest.Form.TheVariants.{Plain}
 use Rattle.desk_lang.specs.declared.rest.Malformed.{Malformed}
 use Rattle.desk_lang.specs.Words.{PlainRest, PlainWord, rest_at, first_word, same_form, malformed_at, next_word, next_value, value_of_word, ended, at_end, ◌>>=◌}
-use Rattle.desk_lang.specs.Values.{spelled_amount, amount_of}
+use Rattle.desk_lang.specs.Values.{label_of, spelled_amount, amount_of}
 use Rattle.desk_lang.specs.Grammar.{range_line, number_line, range_and_handle, holder_line, delegate_line, transfer_line, more_hosts, reverse_line, day_line, by_line, requested, verb_of, line_of_verb, is_comment, line_of_first, line_of_word, line_of, IsSizedRequest, IsValidLine}
 
 -- ---- what holds of values that are read
@@ -130,17 +131,34 @@ transfer_line_valid rest =
     (λ from k. bind_has (λ x. Unit {0}) IsValidRequest _ _ (always _ _ from.1)
     (λ to l. end_has IsValidRequest _ to.1 (h, tt))))
 
+-- one to four hosts
+abbrev HaveRoom : List (List ℕ) → Type 0
+HaveRoom hosts = (1 ≤ length hosts) × (length hosts ≤ 4)
+
+few_hosts : (room : ℕ) (hosts : List (List ℕ)) (rest : PlainRest) → 1 ≤ length hosts → length hosts + room ≤ 4 → IfOk (more_hosts room hosts rest) HaveRoom
+few_hosts zero hosts rest some few = end_has HaveRoom hosts rest (some, omega arith)
+few_hosts (suc room) hosts rest some few =
+    at _ (first_word rest)
+    (bind_has (λ x. Unit {0}) HaveRoom (next_value Plain (label_of is_host) rest) _ (always Plain (label_of is_host) rest)
+    (λ host h. few_hosts room (hosts ++ host.0 ∷ []) host.1 (omega (arith, length-append hosts (host.0 ∷ []))) (omega (arith, length-append hosts (host.0 ∷ [])))))
+  where
+    at : (more : Result (List (List ℕ)) Malformed) (word : Option PlainWord) → IfOk more HaveRoom → IfOk (elim word [ | None ↦ Ok hosts | Some word ↦ more ]) HaveRoom
+    at more None h = (some, omega arith)
+    at more (Some word) h = h
+
 reverse_line_valid : (rest : PlainRest) → IfOk (reverse_line rest) (λ r. (is_request r ≡ true) × IsSizedRequest r)
 unfolding reverse_line
 reverse_line_valid rest =
     bind_has (λ p. is_range p.0 ≡ true) IsValidRequest _ _ (value_has (λ r. is_range r ≡ true) _ range_of rest range_is)
     (λ p h. bind_has (λ x. Unit {0}) IsValidRequest _ _ (always _ _ p.1)
-    (λ host k. hosts_valid p.0 h (more_hosts 3 (host.0 ∷ []) host.1)))
+    (λ host k. hosts_valid p.0 h (more_hosts 3 (host.0 ∷ []) host.1) (few_hosts 3 (host.0 ∷ []) host.1 (lit≤ tt) (lit≤ tt))))
   where
-    hosts_valid : (range : PlainRange) → is_range range ≡ true → (hosts : Result (List (List ℕ)) Malformed)
+    hosts_valid : (range : PlainRange) → is_range range ≡ true → (hosts : Result (List (List ℕ)) Malformed) → IfOk hosts HaveRoom
         → IfOk (hosts >>= λ hosts. Ok (SetReverse range hosts)) IsValidRequest
-    hosts_valid range h (Ok hosts) = (h, tt)
-    hosts_valid range h (Err fault) = tt
+    hosts_valid range h (Ok hosts) few =
+        let counted : are_servers hosts ≡ true = and_from (nat_le 1 (length hosts)) (nat_le (length hosts) 4) (le-leb 1 (length hosts) few.0) (le-leb (length hosts) 4 few.1) in
+        (and_from (is_range range) (are_servers hosts) h counted, tt)
+    hosts_valid range h (Err fault) few = tt
 
 unasked : {T : Type 0} (r : Result T Malformed) → IfOk r (λ x. Unit {0})
 unasked (Ok x) = tt

@@ -22,12 +22,16 @@ use Rattle.reg_entry.specs.declared.object.Object.{Object}
 use Rattle.reg_entry.specs.declared.object.Object.TheVariants.{Block, Cut}
 use Rattle.reg_entry.specs.declared.object.Act.{Act}
 use Rattle.reg_entry.specs.declared.object.Act.TheVariants.{Add, Del}
+use Rattle.reg_entry.specs.declared.found.Found.{Found}
+use Rattle.reg_entry.specs.declared.found.Found.TheVariants.{Piece as ThePiece, Sub as TheSub}
 use Rattle.reg_entry.specs.Entry.{PlainEntry}
 use Rattle.reg_entry.specs.Op.{PlainOp}
+use Rattle.reg_entry.specs.Request.{is_request}
 use Rattle.reg_entry.specs.Policy.{PlainPolicy, PlainRows}
 use Rattle.reg_entry.specs.Entries.{last_card}
 use Rattle.reg_entry.specs.Register.{Register, empty_register, after_entry, register_after, card_of}
 use Rattle.reg_entry.specs.Decision.{decision}
+use Rattle.reg_entry.specs.Sums.{narrowest}
 use Rattle.reg_entry.specs.Objects.{objects_of}
 use Rattle.reg_entry.specs.Operations.{operations_of, objects_after}
 
@@ -230,6 +234,29 @@ split_and_join :
     ≡ ok 0 127 ∷ ok 32 63 ∷ refused (Straddled (net 32 63)) ∷ ok 0 127 ∷ ok 0 127 ∷ []
 split_and_join = refl
 
+-- ---- the narrowest registration round a range
+
+-- the first /25 is allocated, with a sub in it
+abbrev with_sub : ℕ → ℕ → Register
+with_sub first last = register_of ample large (start ++ on march (prefix 25 ∷ SubAssign (net first last) a ∷ []))
+
+abbrev half : Option Found
+half = Some (ThePiece (record { range = net 0 127; card = record { status = Allocated; holder = Some 0; day = march; until = 0 } }))
+
+abbrev sub_in_half : ℕ → ℕ → Option Found
+sub_in_half first last = Some (TheSub (net first last) (record { holder = 0; day = march }) (net 0 127))
+
+-- a number of the sub, a number of the piece alone, two numbers of which one is the sub's, the whole piece, and the /24
+-- round it
+narrowest_found :
+    map (narrowest (with_sub 64 127)) (net 100 100 ∷ net 63 63 ∷ net 63 64 ∷ net 0 127 ∷ net 0 255 ∷ [])
+    ≡ sub_in_half 64 127 ∷ half ∷ half ∷ half ∷ None ∷ []
+narrowest_found = refl
+
+-- of one size with its piece, the sub
+narrowest_on_a_tie : narrowest (with_sub 0 127) (net 0 127) ≡ sub_in_half 0 127
+narrowest_on_a_tie = refl
+
 -- ---- days
 
 hold_time :
@@ -238,6 +265,18 @@ hold_time :
     ∷ (20148, Transfer (net 0 63) b a) ∷ [])
     ≡ ok 0 63 ∷ refused (HoldTime 20148) ∷ refused (HoldTime 20148) ∷ ok 0 63 ∷ []
 hold_time = refl
+
+-- ---- name servers
+
+abbrev server : List ℕ
+server = codes "ns1.a.example"
+
+-- a reverse entry of none is no request, nor is one of five
+one_to_four_servers :
+    map (λ servers. is_request (SetReverse (net 0 255) servers))
+    ([] ∷ (server ∷ []) ∷ (server ∷ server ∷ server ∷ server ∷ []) ∷ (server ∷ server ∷ server ∷ server ∷ server ∷ []) ∷ [])
+    ≡ false ∷ true ∷ true ∷ false ∷ []
+one_to_four_servers = refl
 
 -- ---- reverse cuts
 

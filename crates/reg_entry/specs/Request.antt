@@ -1,5 +1,5 @@
 -- Requests: what their words mean apart from any register.
-use Rattle.std.specs.Prelude.{ℕ, Bool, true, ◌&&◌, nat_le}
+use Rattle.std.specs.Prelude.{ℕ, Bool, true, ◌&&◌, nat_le, List, length}
 use Rattle.num_range.specs.Number.{PlainNumber}
 use Rattle.num_range.specs.Range.{PlainRange}
 use Rattle.num_range.specs.declared.space.Space.{Space}
@@ -37,7 +37,12 @@ is_range r = nat_le r.first r.last && nat_le r.last (top_of r.space)
 abbrev pub is_number : PlainNumber → Bool
 is_number n = nat_le n.value (top_of n.space)
 
--- the ranges and numbers that a request names are those of their spaces, as those of each request of the program are
+-- a reverse entry has one to four name servers
+abbrev pub are_servers : List (List ℕ) → Bool
+are_servers hosts = nat_le 1 (length hosts) && nat_le (length hosts) 4
+
+-- the ranges and numbers that a request names are those of their spaces, and its servers as many as there may be, as
+-- those of each request of the program are
 abbrev pub is_request : Request → Bool
 is_request (Receive range) = is_range range
 is_request (AddHolder holder) = true
@@ -52,5 +57,5 @@ is_request (Release range) = is_range range
 is_request (Split at) = is_number at
 is_request (Join at) = is_number at
 is_request (Transfer range from to) = is_range range
-is_request (SetReverse range servers) = is_range range
+is_request (SetReverse range servers) = is_range range && are_servers servers
 is_request (ClearReverse range) = is_range range

@@ -97,7 +97,8 @@ pub enum Request {
 impl Request {
     ghost use Rattle.reg_entry.specs.Request.{is_request};
 
-    /// Tells callers that the request's ranges and numbers are those of their spaces, as their types keep them.
+    /// Tells callers that the request's ranges and numbers are those of their spaces, and its servers one to four, as
+    /// their types keep them.
     pub fn has_ranges(&self)
         ensures { IsTrue (is_request self.now) }
     {
@@ -112,9 +113,12 @@ impl Request {
             }
             Request::SubAssign { range, .. }
             | Request::Return { range, .. }
-            | Request::Transfer { range, .. }
-            | Request::SetReverse { range, .. } => {
+            | Request::Transfer { range, .. } => {
                 let _ = range.first();
+            }
+            Request::SetReverse { range, servers } => {
+                let _ = range.first();
+                let _ = servers.hosts();
             }
             Request::Split { at } | Request::Join { at } => {
                 let _ = at.value();

@@ -50,7 +50,7 @@ delegated_is_card : (status : Delegation) (holder : Option ℕ) (day until : ℕ
 delegated_is_card Allocate holder day until e = absurd (both_ways false refl e)
 delegated_is_card Assign holder day until e = absurd (both_ways false refl e)
 
-not_available : (s : Status) → is_delegated s ≡ true → is_available s ≡ false
+pub not_available : (s : Status) → is_delegated s ≡ true → is_available s ≡ false
 not_available Available e = absurd (both_ways false refl e)
 not_available Reserved e = absurd (both_ways false refl e)
 not_available Quarantine e = absurd (both_ways false refl e)
@@ -100,24 +100,24 @@ block_inside r space amount (Some x) h e =
 -- ---- the entries
 
 -- what was to be shown of the entry, from what was shown of the cover and the card that are its own
-moved : (pool : Partition) (request : Request) (cover cover₁ : Option PlainRange) (card card₁ : Option Card) → cover₁ ≡ cover → card₁ ≡ card
+pub moved : (pool : Partition) (request : Request) (cover cover₁ : Option PlainRange) (card card₁ : Option Card) → cover₁ ≡ cover → card₁ ≡ card
     → IsConserved pool request cover card → IsConserved pool request cover₁ card₁
 moved pool request cover cover₁ card card₁ e f h =
     subst (λ x. IsConserved pool request x card₁) (sym e) (subst (λ x. IsConserved pool request cover x) (sym f) h)
 
 -- the rules behind the first two
-abbrev rules_behind : List (Option Refusal) → List (Option Refusal)
+abbrev pub rules_behind : List (Option Refusal) → List (Option Refusal)
 rules_behind (a ∷ b ∷ rules) = rules
 rules_behind rules = []
 
 -- what the rules of a request say of its range
-in_one : (r : Register) (range : PlainRange) (rest : List (Option Refusal)) → is_range range ≡ true
+pub in_one : (r : Register) (range : PlainRange) (rest : List (Option Refusal)) → is_range range ≡ true
     → first_of (outside_pool r range ∷ not_in_one_piece r range ∷ rest) ≡ None → IsInPiece r.pool range
 in_one r range rest valid e =
     let a = or_none (outside_pool r range) (first_of (not_in_one_piece r range ∷ rest)) e in
     inside_one r range valid a.0 (or_none (not_in_one_piece r range) (first_of rest) a.1).0
 
-all_one : (r : Register) (range : PlainRange) (rest : List (Option Refusal)) → is_range range ≡ true
+pub all_one : (r : Register) (range : PlainRange) (rest : List (Option Refusal)) → is_range range ≡ true
     → first_of (outside_pool r range ∷ not_one_piece r range ∷ rest) ≡ None → IsOnePiece r.pool range
 all_one r range rest valid e =
     let a = or_none (outside_pool r range) (first_of (not_one_piece r range ∷ rest)) e in
@@ -143,17 +143,15 @@ split_conserves r at cover h early =
     painted_nothing None = refl
     painted_nothing (Some range) = refl
 
-join_conserves : (r : Register) (at : PlainNumber) (cover : Option PlainRange) → IsPartition r.pool → first_of (early_rules r (Join at)) ≡ None
-    → IsConserved r.pool (Join at) cover None
-join_conserves r at cover h early =
+-- what the rules of a Join say of its number
+pub can_be_joined : (r : Register) (at : PlainNumber) → first_of (early_rules r (Join at)) ≡ None → CanJoinAt (pieces_in r.pool at.space) at.value
+can_be_joined r at early =
     let a = or_none (begins_space at) _ early in
     let b = or_none (number_outside_pool r at) _ a.1 in
     let c = or_none (number_outside_pool r (number_before at)) _ b.1 in
     let d = or_none (begins_no_piece r at) _ c.1 in
     let e = or_none (wrong_status r at is_delegated) _ d.1 in
     let f = or_none (cards_differ r at) None e.1 in
-    let ps : List Piece = pieces_in r.pool at.space in
-    let all = h.each at.space in
     let left = number_in_pool r (number_before at) c.0 in
     let right = number_in_pool r at b.0 in
     let nonzero : at.value ≡ 0 → ⊥ = eqb-false at.value 0 (refuse_if_none (at.value == 0) (OutsidePool at) a.0) in
@@ -161,7 +159,7 @@ join_conserves r at cover h early =
     let fixed = not_available right.0.card.status (right_status r at is_delegated right.0 e.0 right.1) in
     let differ = on_the_piece _ (piece_of r.pool (number_before at)) left.0 f.0 left.1 in
     let same = allowed_if (same_card left.0.card right.0.card) (CardsDiffer left.0.range) (on_the_piece _ (piece_of r.pool at) right.0 differ right.1) in
-    let can : CanJoinAt ps at.value = record {
+    record {
       left = left.0;
       right = right.0;
       positive = positive at.value nonzero;
@@ -170,20 +168,27 @@ join_conserves r at cover h early =
       begins = eqb-true right.0.range.first at.value begins;
       one_card = same_card-true left.0.card right.0.card same;
       fixed = fixed;
-    } in
-    rearranged r.pool (Join at) cover at.space (joined_at ps at.value) h (painted_nothing cover) refl
-    (join_keeps at.space ps at.value all can)
-    (λ x. card_at-joined_at at.space ps at.value x all can) (size_sum-joined_at at.space ps at.value all can)
+    }
   where
     positive : (n : ℕ) → (n ≡ 0 → ⊥) → 0 < n
     positive n h = omega arith
 
+join_conserves : (r : Register) (at : PlainNumber) (cover : Option PlainRange) → IsPartition r.pool → first_of (early_rules r (Join at)) ≡ None
+    → IsConserved r.pool (Join at) cover None
+join_conserves r at cover h early =
+    let ps : List Piece = pieces_in r.pool at.space in
+    let all = h.each at.space in
+    let can = can_be_joined r at early in
+    rearranged r.pool (Join at) cover at.space (joined_at ps at.value) h (painted_nothing cover) refl
+    (join_keeps at.space ps at.value all can)
+    (λ x. card_at-joined_at at.space ps at.value x all can) (size_sum-joined_at at.space ps at.value all can)
+  where
     painted_nothing : (cover : Option PlainRange) → pool_after (Join at) cover None r.pool ≡ pool_after (Join at) None None r.pool
     painted_nothing None = refl
     painted_nothing (Some range) = refl
 
 -- each entry that may come next keeps the pool, its cards and its numbers
-by_request : (r : Register) (request : Request) (day until : ℕ) (start : Option ℕ) → IsPartition r.pool → is_request request ≡ true
+pub by_request : (r : Register) (request : Request) (day until : ℕ) (start : Option ℕ) → IsPartition r.pool → is_request request ≡ true
     → first_of (early_rules r request) ≡ None → block_may_be r request start ≡ true
     → IsConserved r.pool request (cover_for r request start) (card_for r request day until)
 by_request r (Receive range) day until start h valid early block =

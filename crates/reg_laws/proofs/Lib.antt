@@ -6,3 +6,17 @@ pub mod NextFacts
 pub mod Painted
 pub mod Conserving
 pub mod FreeBlocks
+pub mod Parts
+pub mod RangeLists
+pub mod HolderFacts
+pub mod CardFacts
+pub mod PieceCounts
+pub mod Keeping
+pub mod RequestKeeps
+pub mod WholeLists
+pub mod WholeStep
+pub mod ReverseCuts
+pub mod DistinctKeys
+pub mod Boards
+pub mod Narrowing
+pub mod RisingKeys

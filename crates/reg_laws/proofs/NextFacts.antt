@@ -113,7 +113,7 @@ exactly_one r range valid pooled one =
     let same = allowed_if (same_range range p.0.range) (NotOnePiece p.0.range) (on_the_piece _ (piece_of r.pool (first_number range)) p.0 one p.1) in
     record { piece = p.0; order = v.0; holds_first = p.1; same = same_range-true range p.0.range same }
 
-pub one_is_inside : (pool : Partition) (range : PlainRange) → IsOnePiece pool range → IsInPiece pool range
+unfoldable pub one_is_inside : (pool : Partition) (range : PlainRange) → IsOnePiece pool range → IsInPiece pool range
 one_is_inside pool range one =
     let same : range.last ≡ one.piece.range.last = ap (λ r. r.last) one.same in
     record { piece = one.piece; order = one.order; holds_first = one.holds_first; last = omega arith }

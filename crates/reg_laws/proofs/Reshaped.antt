@@ -208,14 +208,14 @@ split_keeps space ps at h fixed = record {
 -- ---- joining
 
 -- the second piece begins at the number, where the first ends, and both have one card of numbers that aren't available
-record IsMeeting (p q : Piece) (at : ℕ) : Type 0 where
-  begins : q.range.first ≡ at
-  touches : p.range.last + 1 ≡ at
-  one_card : p.card ≡ q.card
-  fixed : is_available p.card.status ≡ false
+pub record IsMeeting (p q : Piece) (at : ℕ) : Type 0 where
+  pub begins : q.range.first ≡ at
+  pub touches : p.range.last + 1 ≡ at
+  pub one_card : p.card ≡ q.card
+  pub fixed : is_available p.card.status ≡ false
 
 -- where the pieces on either side of the number can be joined, they are the first two, or can be joined behind the first
-join_cases : (low : ℕ) (p q : Piece) (qs : List Piece) (at : ℕ) → RisesFrom low (p ∷ q ∷ qs) → CanJoinAt (p ∷ q ∷ qs) at
+pub join_cases : (low : ℕ) (p q : Piece) (qs : List Piece) (at : ℕ) → RisesFrom low (p ∷ q ∷ qs) → CanJoinAt (p ∷ q ∷ qs) at
     → IsMeeting p q at ⊎ (((q.range.first == at) ≡ false) × CanJoinAt (q ∷ qs) at)
 join_cases low p q qs at rises can =
     elim (cases_Bool (q.range.first == at)) [
@@ -275,10 +275,10 @@ join_cases low p q qs at rises can =
     held_by_first false p o l e none = absurd (none-some l (sym none ∙ e))
 
 -- the list where the first two are joined, and where they aren't
-join_first : (p q : Piece) (qs : List Piece) (at : ℕ) → q.range.first ≡ at → joined_at_after p (q ∷ qs) at ≡ joined_pair p q ∷ qs
+pub join_first : (p q : Piece) (qs : List Piece) (at : ℕ) → q.range.first ≡ at → joined_at_after p (q ∷ qs) at ≡ joined_pair p q ∷ qs
 join_first p q qs at e = cond-true (q.range.first == at) (joined_pair p q ∷ qs) (p ∷ joined_at_after q qs at) (eq-eqb q.range.first at e)
 
-join_rest : (p q : Piece) (qs : List Piece) (at : ℕ) → (q.range.first == at) ≡ false → joined_at_after p (q ∷ qs) at ≡ p ∷ joined_at_after q qs at
+pub join_rest : (p q : Piece) (qs : List Piece) (at : ℕ) → (q.range.first == at) ≡ false → joined_at_after p (q ∷ qs) at ≡ p ∷ joined_at_after q qs at
 join_rest p q qs at f = cond-false (q.range.first == at) (joined_pair p q ∷ qs) (p ∷ joined_at_after q qs at) f
 
 pub join_rises : (low : ℕ) (p : Piece) (qs : List Piece) (at : ℕ) → RisesFrom low (p ∷ qs) → CanJoinAt (p ∷ qs) at

@@ -24,12 +24,12 @@ use Rattle.reg_entry.specs.Objects.{same_key, same_kind, same_holder, same_objec
 
 -- ---- spaces and ranges
 
-space_of : ℕ → Space
+unfoldable pub space_of : ℕ → Space
 space_of zero = Asn
 space_of (suc zero) = Ipv4
 space_of (suc (suc n)) = Ipv6
 
-space_of_rank : (s : Space) → space_of (space_rank s) ≡ s
+pub space_of_rank : (s : Space) → space_of (space_rank s) ≡ s
 unfolding space_of
 space_of_rank Asn = refl
 space_of_rank Ipv4 = refl
@@ -41,7 +41,7 @@ same_space-true s t e = sym (space_of_rank s) ∙ ap space_of (eqb-true (space_r
 pub same_space-refl : (s : Space) → same_space s s ≡ true
 same_space-refl s = eq-eqb (space_rank s) (space_rank s) refl
 
-as_range : Space → ℕ → ℕ → PlainRange
+unfoldable pub as_range : Space → ℕ → ℕ → PlainRange
 as_range space first last = record { space = space; first = first; last = last }
 
 pub same_range-true : (r s : PlainRange) → same_range r s ≡ true → r ≡ s

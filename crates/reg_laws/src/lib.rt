@@ -1,7 +1,10 @@
 //! Laws over the register's definitions, each proved as the contract of a function that does nothing.
 #![tactic(auto)]
 
+pub mod board;
 pub mod conservation;
+pub mod narrowest;
 pub mod next;
 pub mod objects;
 pub mod pieces;
+pub mod whole;

@@ -1,0 +1,6 @@
+use Rattle.reg_laws.proofs.DistinctKeys.{operations_lead}
+use Rattle.reg_laws.proofs.RisingKeys.{operations_give}
+use Rattle.reg_laws.proofs.objects.operations_lead_to_objects.Goals as goal
+
+pub returns : goal.returns
+returns c = record { keys = operations_lead; list = operations_give }

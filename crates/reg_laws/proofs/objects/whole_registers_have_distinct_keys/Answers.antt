@@ -1,0 +1,5 @@
+use Rattle.reg_laws.proofs.DistinctKeys.{whole_is_distinct}
+use Rattle.reg_laws.proofs.objects.whole_registers_have_distinct_keys.Goals as goal
+
+pub returns : goal.returns
+returns c = whole_is_distinct
