@@ -1,0 +1,4 @@
+pub mod Hostmasters
+pub mod Rows
+pub mod Section
+pub mod Token

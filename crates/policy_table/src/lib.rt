@@ -1,0 +1,11 @@
+//! The hostmasters' rules, read from a TOML file to their value or to their first fault.
+#![tactic(auto)]
+
+mod fault;
+mod hostmaster;
+mod hostmasters;
+mod rows;
+mod section;
+mod token;
+
+pub use fault::PolicyFault;
