@@ -7,5 +7,6 @@ mod hostmasters;
 mod rows;
 mod section;
 mod token;
+mod zone;
 
 pub use fault::PolicyFault;

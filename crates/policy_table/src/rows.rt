@@ -7,7 +7,7 @@ ghost use Rattle.policy_table.specs.Section.{text_of};
 ghost use Rattle.policy_table.specs.Rows.{limits_of, cap_size, row_name, percent_at, kinds_key, is_kind, kinds_at, row_at, section_name, rows_at};
 
 use crate::PolicyFault;
-use crate::section::{integer_at, strings_at, table_at, text_of};
+use crate::section::{integer_at, number_up_to, strings_at, table_at, text_of};
 use num_range::Space;
 use reg_entry::{Delegation, Row};
 use std::marker::Model;
@@ -119,12 +119,11 @@ fn kinds_at(row: &Table, key: u8) -> Result<Kinds, PolicyFault>
 
 /// The percentage of an allocated row, and 0 of an assigned one, which has none.
 #[tactic(auto, unfolding(crate::specs::Rows::percent_at))]
-fn percent_at(row: &Table, key: u8, delegation: Delegation) -> Result<u64, PolicyFault>
-    ensures percent { result ≡ percent_at key delegation (table_view row.now) }
-    ensures within { IfOk result (λ percent. percent ≤ 100) }
+fn percent_at(row: &Table, key: u8, delegation: Delegation) -> Result<u32, PolicyFault>
+    ensures { result ≡ percent_at key delegation (table_view row.now) }
 {
     match delegation {
-        Delegation::Allocate => integer_at(row, key, "percent", 0, 100),
+        Delegation::Allocate => number_up_to(row, key, "percent", 100),
         Delegation::Assign => Ok(0),
     }
 }
@@ -171,7 +170,7 @@ fn row_at(
         least: least as u32,
         most: most as u32,
         cap: cap_size(space, cap),
-        percent: percent as u32,
+        percent,
         lir: kinds.lir,
         enduser: kinds.enduser,
     })

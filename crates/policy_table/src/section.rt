@@ -66,6 +66,20 @@ pub(crate) fn integer_at(
     }
 }
 
+/// The integer from 0 up to `most` that is the value of a key.
+pub(crate) fn number_up_to(
+    table: &Table,
+    key: u8,
+    name: &str,
+    most: u32,
+) -> Result<u32, PolicyFault>
+    ensures integer { result ≡ integer_at key name.now 0 most (table_view table.now) }
+    ensures within { IfOk result (λ n. n ≤ most) }
+{
+    let n = integer_at(table, key, name, 0, most as u64)?;
+    Ok(n as u32)
+}
+
 /// The host whose name is the value of a key.
 #[tactic(auto, unfolding(crate::specs::Section::host_at))]
 pub(crate) fn host_at(table: &Table, key: u8, name: &str) -> Result<Host, PolicyFault>
