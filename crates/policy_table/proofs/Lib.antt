@@ -1,2 +1,6 @@
+pub mod Documents
+pub mod Faults
 pub mod Hosts
+pub mod Least
+pub mod Registry
 pub mod Seen

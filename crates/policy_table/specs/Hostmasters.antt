@@ -1,6 +1,9 @@
 -- The hostmasters of the file: a table from names to tokens.
 use Rattle.std.specs.Prelude.{ℕ, Bool, true, not, ◌&&◌, nat_le, if◌then◌else◌, bytes_eq, List, [], ◌∷◌, length, map, Result, Ok, Err}
 use Rattle.std.specs.List.{list_all, list_any}
+use Rattle.std.specs.List.Sorted.{IsStrictlySortedBy}
+use Rattle.std.specs.Cmp.Lexicographic.{slice_cmp}
+use Rattle.std.specs.Ordering.{nat_cmp}
 use Rattle.reg_entry.specs.Name.{is_name}
 use Rattle.toml.specs.Data.{Data, Members, no_members, member}
 use Rattle.policy_table.specs.declared.fault.PolicyFault.{PolicyFault}
@@ -38,6 +41,10 @@ is_count n = nat_le 1 n && nat_le n 64
 -- 1 to 64 hostmasters with tokens of their own
 abbrev pub are_hostmasters : List (List ℕ × List ℕ) → Bool
 are_hostmasters hs = is_count (length hs) && list_all is_hostmaster hs && tokens_differ hs
+
+-- the names rise in the order of their bytes
+abbrev pub AreRising : List (List ℕ × List ℕ) → Type 0
+AreRising hs = IsStrictlySortedBy (slice_cmp nat_cmp) (map (λ h. h.0) hs)
 
 unfoldable pub hostmasters_at : ℕ → List ℕ → Members → Result (List (List ℕ × List ℕ)) PolicyFault
 hostmasters_at key name top = do

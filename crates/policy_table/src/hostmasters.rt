@@ -5,7 +5,7 @@ ghost use Rattle.std.specs.Result.{result_map_both};
 ghost use Rattle.std.specs.BTreeMap.{values};
 ghost use Rattle.toml.specs.View.{view, table_view};
 ghost use Rattle.policy_table.specs.Section.{is_string, Gives};
-ghost use Rattle.policy_table.specs.Hostmasters.{texts_in, named_texts_at, is_hostmaster, tokens_differ, is_count, are_hostmasters, hostmasters_at};
+ghost use Rattle.policy_table.specs.Hostmasters.{texts_in, named_texts_at, is_hostmaster, tokens_differ, is_count, are_hostmasters, AreRising, hostmasters_at};
 
 use crate::PolicyFault;
 use crate::hostmaster::Hostmaster;
@@ -75,9 +75,14 @@ fn tokens_differ(hostmasters: &[Hostmaster]) -> bool
     true
 }
 
-#[tactic(auto, using(crate::proofs::Seen::count_of_texts))]
+/// Whether the table has as many members as there may be hostmasters. Its names rise, as those of each table do.
+#[tactic(
+    auto,
+    using(crate::proofs::Seen::count_of_texts, crate::proofs::Seen::rising_texts)
+)]
 fn has_count(table: &Table) -> bool
-    ensures { result ≡ is_count (length (texts_in (table_view table.now))) }
+    ensures count { result ≡ is_count (length (texts_in (table_view table.now))) }
+    ensures rising { AreRising (texts_in (table_view table.now)) }
 {
     1 <= table.len() && table.len() <= MOST_HOSTMASTERS
 }
@@ -85,7 +90,7 @@ fn has_count(table: &Table) -> bool
 /// The hostmasters of the table, or nothing where their count, a form or two tokens forbid it.
 #[tactic(auto, using(crate::proofs::Seen::all_three))]
 fn hostmasters_in(alloc: Global, table: &Table) -> Result<Option<Vec<Hostmaster>>, AllocError>
-    ensures some { IfOk result (λ found. IfSome found (λ hs. (hs.items ≡ texts_in (table_view table.now)) × (are_hostmasters hs.items ≡ true))) }
+    ensures some { IfOk result (λ found. IfSome found (λ hs. (hs.items ≡ texts_in (table_view table.now)) × (are_hostmasters hs.items ≡ true) × AreRising hs.items)) }
     ensures none { IfOk result (λ found. IsNone found → are_hostmasters (texts_in (table_view table.now)) ≡ false) }
 {
     if !has_count(table) {
@@ -105,7 +110,8 @@ pub(crate) fn hostmasters_at(
     key: u8,
     name: &str,
 ) -> Result<Vec<Hostmaster>, PolicyFault>
-    ensures { Gives (λ hs. hs.items) result (hostmasters_at key name.now (table_view top.now)) }
+    ensures valid { IfOk result (λ hs. (are_hostmasters hs.items ≡ true) × AreRising hs.items) }
+    ensures hostmasters { Gives (λ hs. hs.items) result (hostmasters_at key name.now (table_view top.now)) }
 {
     let table = named_texts_at(top, key, name)?;
     match hostmasters_in(alloc, table) {

@@ -4,9 +4,11 @@
 mod fault;
 mod hostmaster;
 mod hostmasters;
+mod policy;
 mod rows;
 mod section;
 mod token;
 mod zone;
 
 pub use fault::PolicyFault;
+pub use policy::Policy;
