@@ -33,10 +33,11 @@ not_chosen false x e = refl
 pub placed : (hosts ts : List (List ℕ)) (i : ℕ) (text host : List ℕ) → text ≡ host → length hosts ≡ 4 → i < length hosts → i < length ts → get_or ts i text ≡ text → is_host text ≡ true
     → take i hosts ≡ take i ts → list_all is_host (take i ts) ≡ true
     → (take (i + 1) (set hosts i host) ≡ take (i + 1) ts) × (list_all is_host (take (i + 1) ts) ≡ true) × (length (set hosts i host) ≡ 4)
-placed hosts ts i text host read long within inside is one same all =
-    ( ap (λ h. take (i + 1) (set hosts i h)) (sym read) ∙ take_more_set hosts i text within ∙ rw (same, take_more ts i text inside, is) refl
-    , rw (list_all_more is_host ts i text inside, all, is, one) refl
-    , length-set hosts i host ∙ long )
+placed hosts ts i text host read long within inside is one same all = (
+  ap (λ h. take (i + 1) (set hosts i h)) (sym read) ∙ take_more_set hosts i text within ∙ rw (same, take_more ts i text inside, is) refl,
+  rw (list_all_more is_host ts i text inside, all, is, one) refl,
+  length-set hosts i host ∙ long,
+)
 
 -- a string that names no host spoils the array
 pub refused : (ts : List (List ℕ)) (i : ℕ) (text : List ℕ) → i < length ts → get_or ts i text ≡ text → is_host text ≡ false → (if are_servers ts then Some ts else None) ≡ None

@@ -51,8 +51,8 @@ unfoldable pub kinds_at : ℕ → Members → Result Kinds PolicyFault
 kinds_at key row = do
   texts ← texts_at key (codes "kinds") row
   if list_all is_kind texts
-    then Ok (record { lir = names_kind (codes "lir") texts; enduser = names_kind (codes "enduser") texts })
-    else Err (Bounds key)
+      then Ok (record { lir = names_kind (codes "lir") texts; enduser = names_kind (codes "enduser") texts })
+      else Err (Bounds key)
 
 -- a row, whose keys are numbered from the first
 unfoldable pub row_at : ℕ → Space → Delegation → Members → Result Row PolicyFault

@@ -23,16 +23,8 @@ fn all_strings(table: &Table) -> bool
 }
 
 /// The table of strings that is the value of a key.
-#[tactic(
-    auto,
-    using(crate::proofs::Seen::strings_of_members),
-    unfolding(crate::specs::Hostmasters::named_texts_at)
-)]
-fn named_texts_at<'a>(
-    top: &'a Table,
-    key: u8,
-    name: &str,
-) -> Result<&'a Table, PolicyFault>
+#[tactic(auto, using(crate::proofs::Seen::strings_of_members), unfolding(crate::specs::Hostmasters::named_texts_at))]
+fn named_texts_at<'a>(top: &'a Table, key: u8, name: &str) -> Result<&'a Table, PolicyFault>
     ensures { result_map_both (λ t. texts_in (table_view t.now)) (λ e. e) result ≡ named_texts_at key name.now (table_view top.now) }
 {
     let table = table_at(top, key, name)?;
@@ -76,10 +68,7 @@ fn tokens_differ(hostmasters: &[Hostmaster]) -> bool
 }
 
 /// Whether the table has as many members as there may be hostmasters. Its names rise, as those of each table do.
-#[tactic(
-    auto,
-    using(crate::proofs::Seen::count_of_texts, crate::proofs::Seen::rising_texts)
-)]
+#[tactic(auto, using(crate::proofs::Seen::count_of_texts, crate::proofs::Seen::rising_texts))]
 fn has_count(table: &Table) -> bool
     ensures count { result ≡ is_count (length (texts_in (table_view table.now))) }
     ensures rising { AreRising (texts_in (table_view table.now)) }

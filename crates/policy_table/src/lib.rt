@@ -7,6 +7,8 @@ mod hostmasters;
 mod policy;
 mod rows;
 mod section;
+#[cfg(test)]
+mod tests;
 mod token;
 mod zone;
 

@@ -99,11 +99,7 @@ fn names_kind(values: &[Value], kind: &str) -> bool
 }
 
 /// The kinds whose words are the value of a row's last key.
-#[tactic(
-    auto,
-    using(crate::proofs::Seen::all_of_texts, crate::proofs::Seen::any_of_texts),
-    unfolding(crate::specs::Rows::kinds_at)
-)]
+#[tactic(auto, using(crate::proofs::Seen::all_of_texts, crate::proofs::Seen::any_of_texts), unfolding(crate::specs::Rows::kinds_at))]
 fn kinds_at(row: &Table, key: u8) -> Result<Kinds, PolicyFault>
     ensures { result ≡ kinds_at key (table_view row.now) }
 {

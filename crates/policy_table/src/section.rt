@@ -117,11 +117,7 @@ fn all_strings(values: &[Value]) -> bool
 }
 
 /// The array of strings that is the value of a key.
-#[tactic(
-    auto,
-    using(crate::proofs::Seen::strings_of_items, crate::proofs::Seen::texts_of_items),
-    unfolding(crate::specs::Section::texts_at)
-)]
+#[tactic(auto, using(crate::proofs::Seen::strings_of_items, crate::proofs::Seen::texts_of_items), unfolding(crate::specs::Section::texts_at))]
 pub(crate) fn strings_at<'a>(
     table: &'a Table,
     key: u8,
