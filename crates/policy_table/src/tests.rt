@@ -100,20 +100,53 @@ fn name(text: &str) -> Result<Name, Fail> {
     Ok(Name::read(text.as_bytes()).ok_or("a name")?)
 }
 
-/// A row whose percentage is 0.
-fn row(least: u32, most: u32, cap: u128, enduser: bool) -> Row {
-    Row {
-        least,
-        most,
-        cap,
-        percent: 0,
-        lir: true,
-        enduser,
+// The rows: space, status, least, most, cap in numbers, and whether end users are listed, as local registries are.
+const ROWS: [(Space, Delegation, u32, u32, u128, bool); 6] = [
+    (Space::Ipv4, Delegation::Allocate, 20, 32, 1 << 32, false),
+    (Space::Ipv4, Delegation::Assign, 20, 32, 1 << 32, true),
+    (Space::Ipv6, Delegation::Allocate, 20, 64, 1 << 125, false),
+    (Space::Ipv6, Delegation::Assign, 32, 64, 1 << 125, true),
+    (Space::Asn, Delegation::Allocate, 1, 1024, 1 << 32, false),
+    (Space::Asn, Delegation::Assign, 1, 1024, 1 << 32, true),
+];
+
+#[test]
+fn rows_of_policy(rt: HostRuntime) -> Result<(), Fail> {
+    let policy = Policy::read(rt.alloc(), POLICY.as_bytes())?;
+    for (space, delegation, least, most, cap, enduser) in ROWS.iter() {
+        let row = Row {
+            least: *least,
+            most: *most,
+            cap: *cap,
+            percent: 0,
+            lir: true,
+            enduser: *enduser,
+        };
+        assert_eq!(rt; policy.row(*space, *delegation), row);
     }
+    Ok(())
 }
 
 #[test]
-fn whole_policy(rt: HostRuntime) -> Result<(), Fail> {
+fn zone_of_policy(rt: HostRuntime) -> Result<(), Fail> {
+    let policy = Policy::read(rt.alloc(), POLICY.as_bytes())?;
+    let zone = policy.zone();
+    assert_eq!(rt; zone.mname.bytes(), b"ns1.exreg.example".as_slice());
+    assert_eq!(rt; zone.rname.bytes(), b"hostmaster.exreg.example".as_slice());
+    let times = [
+        zone.ttl,
+        zone.refresh,
+        zone.retry,
+        zone.expire,
+        zone.minimum,
+    ];
+    assert_eq!(rt; times, [172800, 7200, 1800, 604800, 3600]);
+    assert_eq!(rt; zone.servers.hosts(), [zone.mname].as_slice());
+    Ok(())
+}
+
+#[test]
+fn terms_of_policy(rt: HostRuntime) -> Result<(), Fail> {
     let policy = Policy::read(rt.alloc(), POLICY.as_bytes())?;
     assert_eq!(rt; policy.registry().bytes(), b"exreg".as_slice());
     assert_eq!(rt; (policy.quarantine_days(), policy.hold_days()), (30, 365));
@@ -121,34 +154,6 @@ fn whole_policy(rt: HostRuntime) -> Result<(), Fail> {
     assert_eq!(rt; policy.by_key(b"k-local-0001"), Some(name("local")?));
     assert_eq!(rt; policy.by_key(b"k-local-0002"), None);
     assert_eq!(rt; *policy.first_hostmaster(), name("local")?);
-    let zone = policy.zone();
-    assert_eq!(rt; zone.mname.bytes(), b"ns1.exreg.example".as_slice());
-    assert_eq!(rt; zone.rname.bytes(), b"hostmaster.exreg.example".as_slice());
-    assert_eq!(rt; (zone.ttl, zone.refresh, zone.retry), (172800, 7200, 1800));
-    assert_eq!(rt; (zone.expire, zone.minimum), (604800, 3600));
-    assert_eq!(rt; zone.servers.hosts(), [zone.mname].as_slice());
-    let ipv6_cap = 1u128 << 125;
-    let rows = [
-        (
-            Space::Ipv4,
-            row(20, 32, 1 << 32, false),
-            row(20, 32, 1 << 32, true),
-        ),
-        (
-            Space::Ipv6,
-            row(20, 64, ipv6_cap, false),
-            row(32, 64, ipv6_cap, true),
-        ),
-        (
-            Space::Asn,
-            row(1, 1024, 1 << 32, false),
-            row(1, 1024, 1 << 32, true),
-        ),
-    ];
-    for (space, allocated, assigned) in rows {
-        assert_eq!(rt; policy.row(space, Delegation::Allocate), allocated);
-        assert_eq!(rt; policy.row(space, Delegation::Assign), assigned);
-    }
     Ok(())
 }
 
@@ -162,8 +167,8 @@ fn strict_policy(rt: HostRuntime) -> Result<(), Fail> {
     let policy = Policy::read(alloc, text.as_bytes())?;
     let strict = policy.row(Space::Ipv4, Delegation::Allocate);
     assert_eq!(rt; (strict.cap, strict.percent), (128, 80));
-    let assigned = row(20, 32, 1 << 32, true);
-    assert_eq!(rt; policy.row(Space::Ipv4, Delegation::Assign), assigned);
+    let other = policy.row(Space::Ipv4, Delegation::Assign);
+    assert_eq!(rt; (other.cap, other.percent), (1 << 32, 0));
     Ok(())
 }
 
@@ -193,162 +198,167 @@ fn is_outside(rt: &(impl Abort + AllocGlobal), key: u8, value: &str) -> Result<(
     Ok(())
 }
 
+const INTEGERS: [(u8, &str, &str, &str, &str); 28] = [
+    (2, "-1", "0", "36500", "36501"),
+    (3, "-1", "0", "36500", "36501"),
+    (7, "-1", "0", "2147483647", "2147483648"),
+    (8, "-1", "0", "2147483647", "2147483648"),
+    (9, "-1", "0", "2147483647", "2147483648"),
+    (10, "-1", "0", "2147483647", "2147483648"),
+    (11, "-1", "0", "2147483647", "2147483648"),
+    (13, "-1", "0", "32", "33"),
+    (14, "19", "20", "32", "33"),
+    (15, "-1", "0", "4294967296", "4294967297"),
+    (16, "-1", "0", "100", "101"),
+    (18, "-1", "0", "32", "33"),
+    (19, "19", "20", "32", "33"),
+    (20, "-1", "0", "4294967296", "4294967297"),
+    (22, "2", "3", "64", "65"),
+    (23, "19", "20", "64", "65"),
+    (24, "-1", "0", "2305843009213693952", "2305843009213693953"),
+    (25, "-1", "0", "100", "101"),
+    (27, "2", "3", "64", "65"),
+    (28, "31", "32", "64", "65"),
+    (29, "-1", "0", "2305843009213693952", "2305843009213693953"),
+    (31, "0", "1", "1024", "1025"),
+    (32, "0", "1", "1024", "1025"),
+    (33, "-1", "0", "4294967296", "4294967297"),
+    (34, "-1", "0", "100", "101"),
+    (36, "0", "1", "1024", "1025"),
+    (37, "0", "1", "1024", "1025"),
+    (38, "-1", "0", "4294967296", "4294967297"),
+];
+
+fn is_wrong(rt: &(impl Abort + AllocGlobal), key: u8, value: &str) -> Result<(), Fail> {
+    let text = changed(rt.alloc(), key, Some(value))?;
+    let wrong = Some(PolicyFault::Wrong(key));
+    assert_eq!(rt; fault(rt.alloc(), &text), wrong, "key {key}, {value}");
+    Ok(())
+}
+
 // Each integer at its bounds and just outside.
 #[test]
 fn bounds_of_integers(rt: HostRuntime) -> Result<(), Fail> {
-    let rows = [
-        (2, "-1", "0", "36500", "36501"),
-        (3, "-1", "0", "36500", "36501"),
-        (7, "-1", "0", "2147483647", "2147483648"),
-        (8, "-1", "0", "2147483647", "2147483648"),
-        (9, "-1", "0", "2147483647", "2147483648"),
-        (10, "-1", "0", "2147483647", "2147483648"),
-        (11, "-1", "0", "2147483647", "2147483648"),
-        (13, "-1", "0", "32", "33"),
-        (14, "19", "20", "32", "33"),
-        (15, "-1", "0", "4294967296", "4294967297"),
-        (16, "-1", "0", "100", "101"),
-        (18, "-1", "0", "32", "33"),
-        (19, "19", "20", "32", "33"),
-        (20, "-1", "0", "4294967296", "4294967297"),
-        (22, "2", "3", "64", "65"),
-        (23, "19", "20", "64", "65"),
-        (24, "-1", "0", "2305843009213693952", "2305843009213693953"),
-        (25, "-1", "0", "100", "101"),
-        (27, "2", "3", "64", "65"),
-        (28, "31", "32", "64", "65"),
-        (29, "-1", "0", "2305843009213693952", "2305843009213693953"),
-        (31, "0", "1", "1024", "1025"),
-        (32, "0", "1", "1024", "1025"),
-        (33, "-1", "0", "4294967296", "4294967297"),
-        (34, "-1", "0", "100", "101"),
-        (36, "0", "1", "1024", "1025"),
-        (37, "0", "1", "1024", "1025"),
-        (38, "-1", "0", "4294967296", "4294967297"),
-    ];
-    for (key, below, least, most, above) in rows {
-        is_outside(&rt, key, below)?;
-        is_within(&rt, key, least)?;
-        is_within(&rt, key, most)?;
-        is_outside(&rt, key, above)?;
+    for (key, below, least, most, above) in INTEGERS.iter() {
+        is_outside(&rt, *key, below)?;
+        is_within(&rt, *key, least)?;
+        is_within(&rt, *key, most)?;
+        is_outside(&rt, *key, above)?;
     }
     let ten = changed(rt.alloc(), 14, Some("10"))?;
     assert_eq!(rt; fault(rt.alloc(), &ten), Some(PolicyFault::Bounds(14)));
     Ok(())
 }
 
+const WITHIN: [(u8, &str); 11] = [
+    (1, r#""abc""#),
+    (1, r#""abcdefghijkl""#),
+    (5, r#""a.b""#),
+    (6, r#""hostmaster.exreg.example""#),
+    (12, r#"["a.b", "c.d", "e.f", "g.h"]"#),
+    (17, "[]"),
+    (17, r#"["lir", "lir"]"#),
+    (21, r#"["enduser"]"#),
+    (4, r#"{ abcdefghijklmnopqrstuv24 = "Aa0-._~+/=" }"#),
+    (4, r#"{ 0 = "1234567=" }"#),
+    (
+        4,
+        r#"{ a = "0123456789012345678901234567890123456789012345678901234567890123" }"#,
+    ),
+];
+
+const OUTSIDE: [(u8, &str); 26] = [
+    (1, r#""ab""#),
+    (1, r#""abcdefghijklm""#),
+    (1, r#""exReg""#),
+    (1, r#""exreg1""#),
+    (5, r#""ns1""#),
+    (5, r#""Ns1.exreg.example""#),
+    (6, r#""host_master.example""#),
+    (12, "[]"),
+    (12, r#"["a.b", "c.d", "e.f", "g.h", "i.j"]"#),
+    (12, r#"["a.b", "c"]"#),
+    (17, r#"["lir", "host"]"#),
+    (21, r#"["LIR"]"#),
+    (26, r#"[""]"#),
+    (30, r#"["end user"]"#),
+    (35, r#"["lir "]"#),
+    (39, r#"["enduse"]"#),
+    (4, "{}"),
+    (4, r#"{ abcdefghijklmnopqrstuvw25 = "k-local-0001" }"#),
+    (4, r#"{ Local = "k-local-0001" }"#),
+    (4, r#"{ "" = "k-local-0001" }"#),
+    (4, r#"{ local = "1234567" }"#),
+    (
+        4,
+        r#"{ a = "01234567890123456789012345678901234567890123456789012345678901234" }"#,
+    ),
+    (4, r#"{ local = "k-local=0001" }"#),
+    (4, r#"{ local = "========" }"#),
+    (4, r#"{ local = "k local 0001" }"#),
+    (
+        4,
+        r#"{ a = "k-local-0001", b = "k-local-0002", c = "k-local-0001" }"#,
+    ),
+];
+
+const OF_OTHER_TYPE: [(u8, &str); 7] = [
+    (12, r#"["a.b", 1]"#),
+    (12, r#"[true, "c"]"#),
+    (17, r#"["host", 1]"#),
+    (4, r#"{ Local = "k", b = 1 }"#),
+    (4, r#"["k-local-0001"]"#),
+    (2, "30.0"),
+    (5, "1979-05-27"),
+];
+
 #[test]
 fn forms_of_texts(rt: HostRuntime) -> Result<(), Fail> {
-    let within = [
-        (1, r#""abc""#),
-        (1, r#""abcdefghijkl""#),
-        (5, r#""a.b""#),
-        (6, r#""hostmaster.exreg.example""#),
-        (12, r#"["a.b", "c.d", "e.f", "g.h"]"#),
-        (17, "[]"),
-        (17, r#"["lir", "lir"]"#),
-        (21, r#"["enduser"]"#),
-        (4, r#"{ abcdefghijklmnopqrstuv24 = "Aa0-._~+/=" }"#),
-        (4, r#"{ 0 = "1234567=" }"#),
-        (
-            4,
-            r#"{ a = "0123456789012345678901234567890123456789012345678901234567890123" }"#,
-        ),
-    ];
-    for (key, value) in within {
-        is_within(&rt, key, value)?;
+    for (key, value) in WITHIN.iter() {
+        is_within(&rt, *key, value)?;
     }
-    let outside = [
-        (1, r#""ab""#),
-        (1, r#""abcdefghijklm""#),
-        (1, r#""exReg""#),
-        (1, r#""exreg1""#),
-        (5, r#""ns1""#),
-        (5, r#""Ns1.exreg.example""#),
-        (6, r#""host_master.example""#),
-        (12, "[]"),
-        (12, r#"["a.b", "c.d", "e.f", "g.h", "i.j"]"#),
-        (12, r#"["a.b", "c"]"#),
-        (17, r#"["lir", "host"]"#),
-        (21, r#"["LIR"]"#),
-        (26, r#"[""]"#),
-        (30, r#"["end user"]"#),
-        (35, r#"["lir "]"#),
-        (39, r#"["enduse"]"#),
-        (4, "{}"),
-        (4, r#"{ abcdefghijklmnopqrstuvw25 = "k-local-0001" }"#),
-        (4, r#"{ Local = "k-local-0001" }"#),
-        (4, r#"{ "" = "k-local-0001" }"#),
-        (4, r#"{ local = "1234567" }"#),
-        (
-            4,
-            r#"{ a = "01234567890123456789012345678901234567890123456789012345678901234" }"#,
-        ),
-        (4, r#"{ local = "k-local=0001" }"#),
-        (4, r#"{ local = "========" }"#),
-        (4, r#"{ local = "k local 0001" }"#),
-        (
-            4,
-            r#"{ a = "k-local-0001", b = "k-local-0002", c = "k-local-0001" }"#,
-        ),
-    ];
-    for (key, value) in outside {
-        is_outside(&rt, key, value)?;
+    for (key, value) in OUTSIDE.iter() {
+        is_outside(&rt, *key, value)?;
     }
-    let wrong = [
-        (12, r#"["a.b", 1]"#),
-        (12, r#"[true, "c"]"#),
-        (17, r#"["host", 1]"#),
-        (4, r#"{ Local = "k", b = 1 }"#),
-        (4, r#"["k-local-0001"]"#),
-        (2, "30.0"),
-        (5, "1979-05-27"),
-    ];
-    for (key, value) in wrong {
-        let text = changed(rt.alloc(), key, Some(value))?;
-        let wrong = Some(PolicyFault::Wrong(key));
-        assert_eq!(rt; fault(rt.alloc(), &text), wrong, "key {key}, {value}");
+    for (key, value) in OF_OTHER_TYPE.iter() {
+        is_wrong(&rt, *key, value)?;
     }
     Ok(())
 }
 
-// A table that isn't there, or that is none, is the fault of its first key.
+// The policy up to a mark, what stands behind it, and the fault: a table that isn't there, or that is none, is the fault
+// of its first key.
+const TABLES: [(&str, &str, PolicyFault); 16] = [
+    ("registry", "", PolicyFault::Missing(1)),
+    ("[zone]", "", PolicyFault::Missing(5)),
+    ("[zone]", "zone = 1\n", PolicyFault::Wrong(5)),
+    ("[zone]", "zone = []\n", PolicyFault::Wrong(5)),
+    ("[zone]", "zone = {}\n", PolicyFault::Missing(5)),
+    ("[ipv4]", "", PolicyFault::Missing(13)),
+    ("[ipv4]", "[ipv4]\n", PolicyFault::Missing(13)),
+    ("[ipv4]", "[ipv4]\nallocated = 1\n", PolicyFault::Wrong(13)),
+    ("[ipv4]", "[[ipv4]]\n", PolicyFault::Wrong(13)),
+    ("assigned", "", PolicyFault::Missing(18)),
+    ("assigned", "assigned = \"no\"\n", PolicyFault::Wrong(18)),
+    ("[ipv6]", "", PolicyFault::Missing(22)),
+    ("[ipv6]", "[[ipv6]]\n", PolicyFault::Wrong(22)),
+    ("[ipv6]", "[ipv6]\nallocated = []\n", PolicyFault::Wrong(22)),
+    ("[asn]", "", PolicyFault::Missing(31)),
+    ("[asn]", "[[asn]]\n", PolicyFault::Wrong(31)),
+];
+
 #[test]
 fn tables(rt: HostRuntime) -> Result<(), Fail> {
-    let alloc = rt.alloc();
-    let (front, _) = POLICY.split_once("[zone]").ok_or("the zone")?;
-    let (zone, _) = POLICY.split_once("[ipv4]").ok_or("the rows")?;
-    let (ipv4, _) = POLICY.split_once("assigned").ok_or("the second row")?;
-    let (before_ipv6, _) = POLICY.split_once("[ipv6]").ok_or("IPv6")?;
-    let (before_asn, _) = POLICY.split_once("[asn]").ok_or("AS numbers")?;
-    let rows = [
-        ("", "", PolicyFault::Missing(1)),
-        (front, "", PolicyFault::Missing(5)),
-        (front, "zone = 1\n", PolicyFault::Wrong(5)),
-        (front, "zone = []\n", PolicyFault::Wrong(5)),
-        (front, "zone = {}\n", PolicyFault::Missing(5)),
-        (zone, "", PolicyFault::Missing(13)),
-        (zone, "[ipv4]\n", PolicyFault::Missing(13)),
-        (zone, "[ipv4]\nallocated = 1\n", PolicyFault::Wrong(13)),
-        (zone, "[[ipv4]]\n", PolicyFault::Wrong(13)),
-        (ipv4, "", PolicyFault::Missing(18)),
-        (ipv4, "assigned = \"no\"\n", PolicyFault::Wrong(18)),
-        (before_ipv6, "", PolicyFault::Missing(22)),
-        (before_ipv6, "[[ipv6]]\n", PolicyFault::Wrong(22)),
-        (
-            before_ipv6,
-            "[ipv6]\nallocated = []\n",
-            PolicyFault::Wrong(22),
-        ),
-        (before_asn, "", PolicyFault::Missing(31)),
-        (before_asn, "[[asn]]\n", PolicyFault::Wrong(31)),
-    ];
-    for (front, back, wanted) in rows {
-        let text = format!(in alloc; "{front}{back}")?;
-        assert_eq!(rt; fault(alloc, &text), Some(wanted), "{text}");
+    for (mark, back, wanted) in TABLES.iter() {
+        let (front, _) = POLICY.split_once(*mark).ok_or("a mark")?;
+        let mut text = String::from_str(rt.alloc(), front)?;
+        text.push_str(back)?;
+        assert_eq!(rt; fault(rt.alloc(), &text), Some(*wanted), "{text}");
     }
-    let other = format!(in alloc; "other = 1\n{POLICY}[more]\nkey = 2\n")?;
-    assert_eq!(rt; fault(alloc, &other), None);
+    let mut other = String::from_str(rt.alloc(), "other = 1\n")?;
+    other.push_str(POLICY)?;
+    other.push_str("[more]\nkey = 2\n")?;
+    assert_eq!(rt; fault(rt.alloc(), &other), None);
     Ok(())
 }
 
@@ -387,6 +397,12 @@ fn table_of(alloc: Global, count: u32) -> Result<String, Fail> {
     Ok(table)
 }
 
+const THREE: [(&str, &str); 3] = [
+    ("k-zulu-0001", "zulu"),
+    ("k-alpha-0001", "alpha"),
+    ("k-mike-0001", "m1"),
+];
+
 #[test]
 fn hostmasters(rt: HostRuntime) -> Result<(), Fail> {
     let alloc = rt.alloc();
@@ -396,12 +412,7 @@ fn hostmasters(rt: HostRuntime) -> Result<(), Fail> {
     let text = changed(alloc, 4, Some(three))?;
     let policy = Policy::read(alloc, text.as_bytes())?;
     assert_eq!(rt; *policy.first_hostmaster(), name("alpha")?);
-    let rows = [
-        ("k-zulu-0001", "zulu"),
-        ("k-alpha-0001", "alpha"),
-        ("k-mike-0001", "m1"),
-    ];
-    for (key, who) in rows {
+    for (key, who) in THREE.iter() {
         assert_eq!(rt; policy.by_key(key.as_bytes()), Some(name(who)?));
         assert!(rt; policy.knows(&name(who)?));
     }
