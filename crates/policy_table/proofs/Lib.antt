@@ -4,3 +4,4 @@ pub mod Hosts
 pub mod Least
 pub mod Registry
 pub mod Seen
+pub mod Unknown

@@ -1,5 +1,5 @@
 //! The hostmasters of the file.
-ghost use Rattle.std.specs.Prelude.{◌≡◌, length, IfOk, IfSome, IsNone, true, false, bytes_eq};
+ghost use Rattle.std.specs.Prelude.{◌≡◌, length, IfOk, IfSome, IsNone, true, false, bytes_eq, option_map, find};
 ghost use Rattle.std.specs.List.{list_all, list_any};
 ghost use Rattle.std.specs.Result.{result_map_both};
 ghost use Rattle.std.specs.BTreeMap.{values};
@@ -10,6 +10,7 @@ ghost use Rattle.policy_table.specs.Hostmasters.{texts_in, named_texts_at, is_ho
 use crate::PolicyFault;
 use crate::hostmaster::Hostmaster;
 use crate::section::{table_at, text_of};
+use reg_entry::Name;
 use std::alloc::{AllocError, Global};
 use toml::Table;
 
@@ -53,6 +54,14 @@ fn has_token(hostmasters: &[Hostmaster], token: &[u8]) -> bool
     ensures { result ≡ list_any (λ h. bytes_eq h.1 token.now) hostmasters.now }
 {
     hostmasters.iter().any(|h| h.token() == token)
+}
+
+/// The name of the hostmaster who has the token.
+pub(crate) fn name_with(hostmasters: &[Hostmaster], token: &[u8]) -> Option<Name>
+    ensures { result ≡ option_map (λ h. h.0) (find (λ h. bytes_eq h.1 token.now) hostmasters.now) }
+{
+    let hostmaster = hostmasters.iter().find(|h| h.token() == token)?;
+    Some(*hostmaster.name())
 }
 
 /// Whether no two of them have one token.

@@ -1,8 +1,8 @@
-ghost use Rattle.std.specs.Prelude.{◌≡◌, ◌≢◌, ◌<◌, ◌↔◌, true, if◌then◌else◌, Some, None, Ok, Err, IfOk, IfErr, All, map, length};
+ghost use Rattle.std.specs.Prelude.{◌≡◌, ◌≢◌, ◌<◌, ◌↔◌, true, false, bytes_eq, IsNone, if◌then◌else◌, Some, None, Ok, Err, IfOk, IfErr, All, map, length};
 ghost use Rattle.std.specs.Cmp.Lexicographic.{slice_cmp};
 ghost use Rattle.std.specs.Ordering.{nat_cmp};
 ghost use Rattle.std.specs.declared.cmp.Ordering.TheVariants.{Greater};
-ghost use Rattle.std.specs.List.{list_all};
+ghost use Rattle.std.specs.List.{list_all, list_any};
 ghost use Rattle.reg_entry.specs.Name.{is_small_letter};
 ghost use Rattle.reg_entry.specs.Policy.{policy_row, is_hostmaster, IsRowOf};
 ghost use Rattle.reg_entry.specs.Request.{status_of};
@@ -14,7 +14,7 @@ ghost use Rattle.policy_table.specs.Policy.{is_registry, registry_at, policy_in,
 
 use crate::PolicyFault;
 use crate::hostmaster::Hostmaster;
-use crate::hostmasters::hostmasters_at;
+use crate::hostmasters::{hostmasters_at, name_with};
 use crate::rows::{Rows, rows_at};
 use crate::section::{number_up_to, text_at};
 use crate::zone::zone_at;
@@ -186,10 +186,10 @@ impl Policy {
 
     /// The name of the hostmaster who has this key, a token (RFC 6750 2.1), or nothing where none has.
     pub fn by_key(&self, key: &[u8]) -> Option<Name>
-        ensures { result ≡ hostmaster_with self.now key.now }
+        ensures name { result ≡ hostmaster_with self.now key.now }
+        ensures none { IsNone result ↔ (list_any (λ h. bytes_eq h.1 key.now) self.now.hostmasters ≡ false) }
     {
-        let hostmaster = self.hostmasters.iter().find(|h| h.token() == key)?;
-        Some(*hostmaster.name())
+        name_with(&self.hostmasters, key)
     }
 
     /// The hostmaster whose name is the least in the order of bytes.

@@ -160,11 +160,12 @@ fn terms_of_policy(rt: HostRuntime) -> Result<(), Fail> {
 // A strict policy differs from the first one in a cap and a percentage, and nothing else.
 #[test]
 fn strict_policy(rt: HostRuntime) -> Result<(), Fail> {
-    let alloc = rt.alloc();
     let old = "cap = 4294967296, percent = 0";
     let (front, back) = POLICY.split_once(old).ok_or("the first cap")?;
-    let text = format!(in alloc; "{front}cap = 128, percent = 80{back}")?;
-    let policy = Policy::read(alloc, text.as_bytes())?;
+    let mut text = String::from_str(rt.alloc(), front)?;
+    text.push_str("cap = 128, percent = 80")?;
+    text.push_str(back)?;
+    let policy = Policy::read(rt.alloc(), text.as_bytes())?;
     let strict = policy.row(Space::Ipv4, Delegation::Allocate);
     assert_eq!(rt; (strict.cap, strict.percent), (128, 80));
     let other = policy.row(Space::Ipv4, Delegation::Assign);
