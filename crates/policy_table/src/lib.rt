@@ -1,0 +1,16 @@
+//! The hostmasters' rules, read from a TOML file to their value or to their first fault.
+#![tactic(auto)]
+
+mod fault;
+mod hostmaster;
+mod hostmasters;
+mod policy;
+mod rows;
+mod section;
+#[cfg(test)]
+mod tests;
+mod token;
+mod zone;
+
+pub use fault::PolicyFault;
+pub use policy::Policy;
