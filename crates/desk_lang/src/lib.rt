@@ -6,6 +6,8 @@ mod append;
 mod entry_text;
 mod line;
 mod parted;
+#[cfg(test)]
+mod read_tests;
 mod reply_text;
 mod request_text;
 mod rest;
