@@ -1,3 +1,6 @@
 pub mod Fronts
 pub mod Hosts
 mod WrittenRows
+pub mod ReadWords
+pub mod WordForms
+pub mod ReadValues

@@ -13,12 +13,25 @@ fn is_request(rt: &impl Abort, text: &str, request: &Request) {
     assert!(rt; is_read, "{text}");
 }
 
-// What a line means that asks for no entry, where the last is a day.
-fn is_other(rt: &impl Abort, text: &str, number: Option<Number>, name: Option<Name>, day: u32) {
+fn is_shown(rt: &impl Abort, text: &str, number: &Number) {
     let is_read = match read_line(text.as_bytes()) {
-        Ok(Line::Show(read)) => number == Some(read),
-        Ok(Line::By(read)) => name == Some(read),
-        Ok(Line::Day(read)) => day == read,
+        Ok(Line::Show(read)) => read == *number,
+        _ => false,
+    };
+    assert!(rt; is_read, "{text}");
+}
+
+fn is_by(rt: &impl Abort, text: &str, name: &Name) {
+    let is_read = match read_line(text.as_bytes()) {
+        Ok(Line::By(read)) => read == *name,
+        _ => false,
+    };
+    assert!(rt; is_read, "{text}");
+}
+
+fn is_day(rt: &impl Abort, text: &str, day: u32) {
+    let is_read = match read_line(text.as_bytes()) {
+        Ok(Line::Day(read)) => read == day,
         _ => false,
     };
     assert!(rt; is_read, "{text}");
@@ -220,12 +233,12 @@ fn other_lines(rt: HostRuntime) -> Result<(), Fail> {
     let asn = number(Space::Asn, 64496)?;
     let four = number(Space::Ipv4, FOUR)?;
     let local = Name::read(b"local").ok_or("a name")?;
-    is_other(&rt, "show AS64496", Some(asn), None, 0);
-    is_other(&rt, " show\t192.0.2.0 ", Some(four), None, 0);
-    is_other(&rt, "by local", None, Some(local), 0);
-    is_other(&rt, "day 19700102", None, None, 1);
-    is_other(&rt, "day 20240301", None, None, 19783);
-    is_other(&rt, "day 99991231", None, None, 2_932_896);
+    is_shown(&rt, "show AS64496", &asn);
+    is_shown(&rt, " show\t192.0.2.0 ", &four);
+    is_by(&rt, "by local", &local);
+    is_day(&rt, "day 19700102", 1);
+    is_day(&rt, "day 20240301", 19783);
+    is_day(&rt, "day 99991231", 2_932_896);
     Ok(())
 }
 
