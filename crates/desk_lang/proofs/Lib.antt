@@ -4,3 +4,4 @@ mod WrittenRows
 pub mod ReadWords
 pub mod WordForms
 pub mod ReadValues
+pub mod ReadLines

@@ -142,7 +142,7 @@ range_is_word r h = record {
 
 -- ---- handles, country codes, hosts and texts
 
-all_from_test : (test : ℕ → Bool) (P : ℕ → Type 0) → ((b : ℕ) → test b ≡ true → P b) → (bytes : List ℕ) → list_all test bytes ≡ true → All P bytes
+pub all_from_test : (test : ℕ → Bool) (P : ℕ → Type 0) → ((b : ℕ) → test b ≡ true → P b) → (bytes : List ℕ) → list_all test bytes ≡ true → All P bytes
 all_from_test test P tells [] h = All-nil P
 all_from_test test P tells (b ∷ bytes) h =
     let parts = and_parts (test b) (list_all test bytes) h in

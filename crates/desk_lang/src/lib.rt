@@ -4,6 +4,7 @@
 
 mod append;
 mod entry_text;
+pub mod laws;
 mod line;
 mod parted;
 #[cfg(test)]
