@@ -11,7 +11,7 @@ use Rattle.desk_lang.specs.Values.{label_of}
 use Rattle.desk_lang.specs.Grammar.{more_hosts}
 
 -- where there is room and a word, it has to be a host
-hosts_behind : (room : ℕ) (hosts : List (List ℕ)) (rest : PlainRest) → IsSome (first_word rest)
+pub hosts_behind : (room : ℕ) (hosts : List (List ℕ)) (rest : PlainRest) → IsSome (first_word rest)
     → more_hosts (suc room) hosts rest ≡ (next_value Plain (label_of is_host) rest >>= λ host. more_hosts room (hosts ++ host.0 ∷ []) host.1)
 hosts_behind room hosts rest some = behind _ (first_word rest) some
   where

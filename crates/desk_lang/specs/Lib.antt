@@ -6,3 +6,4 @@ pub mod ShownText
 pub mod Words
 pub mod Values
 pub mod Grammar
+pub mod Writable

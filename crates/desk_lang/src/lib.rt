@@ -4,13 +4,15 @@
 
 mod append;
 mod entry_text;
+pub mod laws;
 mod line;
 mod parted;
+#[cfg(test)]
+mod read_tests;
 mod reply_text;
 mod request_text;
 mod rest;
 mod shown_text;
-mod valid;
 mod values;
 mod verb;
 mod vocabulary;
@@ -24,4 +26,3 @@ pub use reply_text::write_reply;
 pub use request_text::write_request;
 pub use rest::Malformed;
 pub use shown_text::write_piece;
-pub use valid::lines_are_valid;
