@@ -142,7 +142,7 @@ few_hosts (suc room) hosts rest some few =
     (bind_has (λ x. Unit {0}) HaveRoom (next_value Plain (label_of is_host) rest) _ (always Plain (label_of is_host) rest)
     (λ host h. few_hosts room (hosts ++ host.0 ∷ []) host.1 (omega (arith, length-append hosts (host.0 ∷ []))) (omega (arith, length-append hosts (host.0 ∷ [])))))
   where
-    at : (more : Result (List (List ℕ)) Malformed) (word : Option PlainWord) → IfOk more HaveRoom → IfOk (elim word [ | None ↦ Ok hosts | Some word ↦ more ]) HaveRoom
+    at : (more : Result (List (List ℕ)) Malformed) (word : Option PlainWord) → IfOk more HaveRoom → IfOk (elim word [ None ↦ Ok hosts | Some word ↦ more ]) HaveRoom
     at more None h = (some, omega arith)
     at more (Some word) h = h
 
