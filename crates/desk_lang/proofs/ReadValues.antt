@@ -46,7 +46,7 @@ pub delegation_back : (status : Delegation) → delegation_of (status_word (stat
 delegation_back Allocate = refl
 delegation_back Assign = refl
 
-decimal_back : (n : ℕ) → n < 2 ^ 32 → decimal_of (decimal n) ≡ Some n
+pub decimal_back : (n : ℕ) → n < 2 ^ 32 → decimal_of (decimal n) ≡ Some n
 decimal_back n fits =
     sym (same_value (IsDecimalUpTo (2 ^ 32 - 1) (decimal n)) (λ x y h k. decimal_injective x y (omega (arith, h.1)) (omega (arith, k.1)) (sym h.0 ∙ k.0))
     (Some n) (decimal_of (decimal n)) (refl, omega arith) tt (decimal_spelled (2 ^ 32 - 1) (decimal n) (omega arith)))

@@ -69,6 +69,14 @@ module _ {T U : Type 0} (value : List ℕ → Option T) (x : T) (read : T × Pla
       ∙ ap (λ o. value_of_word (plain_at (place + 1) word more) o >>= read) v
       ∙ behind (place + 1 + length word)
 
+  -- the first word of a line
+  pub first_read : (word more : List ℕ) → IsWord word → value word ≡ Some x → ends_word more ≡ true → ((place : ℕ) → read (x, rest_at place more) ≡ Ok y)
+      → (place : ℕ) → (next_value Plain value (rest_at place (word ++ more)) >>= read) ≡ Ok y
+  first_read word more h v e behind place =
+      ap (λ o. (word_in Plain (end_place (rest_at place (word ++ more))) o >>= λ w. value_of_word w (value w.bytes)) >>= read) (plain_first place word more h e)
+      ∙ ap (λ o. value_of_word (plain_at place word more) o >>= read) v
+      ∙ behind (place + length word)
+
   -- the last word of a line
   pub last_read : (word : List ℕ) → IsWord word → value word ≡ Some x → ((place : ℕ) → read (x, rest_at place []) ≡ Ok y)
       → (place : ℕ) → (next_value Plain value (rest_at place (32 ∷ word)) >>= read) ≡ Ok y

@@ -15,7 +15,7 @@ fn is_request(rt: &impl Abort, text: &str, request: &Request) {
 
 fn is_shown(rt: &impl Abort, text: &str, number: &Number) {
     let is_read = match read_line(text.as_bytes()) {
-        Ok(Line::Show(read)) => read == *number,
+        Ok(Line::Show(read)) => read.space() == number.space() && read.value() == number.value(),
         _ => false,
     };
     assert!(rt; is_read, "{text}");
@@ -23,7 +23,7 @@ fn is_shown(rt: &impl Abort, text: &str, number: &Number) {
 
 fn is_by(rt: &impl Abort, text: &str, name: &Name) {
     let is_read = match read_line(text.as_bytes()) {
-        Ok(Line::By(read)) => read == *name,
+        Ok(Line::By(read)) => read.bytes() == name.bytes(),
         _ => false,
     };
     assert!(rt; is_read, "{text}");
