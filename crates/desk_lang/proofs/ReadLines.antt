@@ -141,7 +141,7 @@ delegate_reads : (space : Space) (amount : ℕ) (status : Delegation) (handle : 
 unfolding delegate_line
 delegate_reads space amount status handle hs hh place =
     let words : space_word space ++ codes " " ++ amount_text space amount ++ codes " " ++ status_word (status_of status) ++ codes " " ++ handle
-        ≡ space_word space ++ (32 ∷ (amount_text space amount ++ (32 ∷ (status_word (status_of status) ++ (32 ∷ handle))))) = simp append_assoc in
+    ≡ space_word space ++ (32 ∷ (amount_text space amount ++ (32 ∷ (status_word (status_of status) ++ (32 ∷ handle))))) = simp append_assoc in
     let request = Delegate space amount status handle in
     ap (λ t. delegate_line (rest_at place (32 ∷ t))) words
     ∙ plain_read space_of space

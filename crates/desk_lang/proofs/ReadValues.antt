@@ -1,5 +1,5 @@
 -- What was written of a value has that value.
-use Rattle.std.proofs.Common.{◌≡◌, ◌≢◌, ℕ, ◌-◌, ◌^◌, ◌<◌, ◌≤◌, Bool, true, false, List, [], ◌∷◌, ◌++◌, Option, None, Some, decimal, codes, refl, sym, ap, ◌∙◌, arith, cond}
+use Rattle.std.proofs.Common.{◌≡◌, ◌≢◌, ℕ, ◌-◌, ◌^◌, ◌<◌, ◌≤◌, Bool, true, nat_le, List, [], ◌∷◌, ◌++◌, Option, None, Some, decimal, codes, refl, sym, ap, ◌∙◌, arith, cond}
 use Rattle.std.proofs.lemmas.Bool.{and_parts, leb-true, cond-true}
 use Rattle.std.proofs.lemmas.Fmt.{decimal_injective}
 use Rattle.std.specs.Option.{option_and_then}
@@ -53,9 +53,9 @@ decimal_back n fits =
 
 -- an amount that can be asked for is at most 1,024
 pub amount_fits : (space : Space) (amount : ℕ) → has_size space amount ≡ true → amount < 2 ^ 32
-amount_fits Asn amount h = let most = leb-true amount 1024 (and_parts _ _ h).1 in omega arith
+amount_fits Asn amount h = let most = leb-true amount 1024 (and_parts (nat_le 1 amount) (nat_le amount 1024) h).1 in omega arith
 amount_fits Ipv4 amount h = let most = leb-true amount 32 h in omega arith
-amount_fits Ipv6 amount h = let most = leb-true amount 128 (and_parts _ _ h).1 in omega arith
+amount_fits Ipv6 amount h = let most = leb-true amount 128 (and_parts (nat_le 3 amount) (nat_le amount 128) h).1 in omega arith
 
 spelled_back : (space : Space) (amount : ℕ) → amount < 2 ^ 32 → spelled_amount space (amount_text space amount) ≡ Some amount
 spelled_back Asn amount h = decimal_back amount h

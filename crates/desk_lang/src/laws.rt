@@ -6,7 +6,6 @@ ghost use Rattle.desk_lang.specs.RequestText.{request_text};
 ghost use Rattle.desk_lang.specs.Writable.{IsWritable};
 ghost use Rattle.desk_lang.specs.Grammar.{line_of};
 
-
 /// The text that is written of a request is a line of the desk language, and is read as that request.
 #[tactic(auto, using(crate::proofs::ReadLines::written_reads, crate::proofs::ReadLines::length_request))]
 pub fn reads_written()
