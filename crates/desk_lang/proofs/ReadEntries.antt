@@ -1,6 +1,6 @@
 -- An entry's written text is read as the entry.
-use Rattle.std.proofs.Common.{◌≡◌, ◌≢◌, ℕ, zero, suc, ◌+◌, ◌-◌, ◌*◌, ◌/◌, ◌%◌, ◌^◌, ◌<◌, ◌≤◌, Bool, true, false, ◌==◌, ◌&&◌, nat_le, List, [], ◌∷◌, ◌++◌, length, All, Option, None, Some, Result, Ok, Err, decimal, codes, refl, sym, ap, ◌∙◌, subst, inl, inr, arith, append_assoc, append-nil, length-append, cond, IfSome, IfNone}
-use Rattle.std.proofs.lemmas.Bool.{cond-true, cond-false, le-ltb, cases_eq, cond_both, eq-eqb, ne_eqb, false_from_ne_true, and_parts, leb-true}
+use Rattle.std.proofs.Common.{◌≡◌, ℕ, ◌+◌, ◌-◌, ◌/◌, ◌%◌, ◌^◌, ◌<◌, ◌≤◌, true, false, ◌==◌, ◌&&◌, nat_le, List, [], ◌∷◌, ◌++◌, length, All, Option, None, Some, Ok, decimal, codes, refl, sym, ap, ◌∙◌, subst, inl, inr, arith, append_assoc, IfSome, IfNone}
+use Rattle.std.proofs.lemmas.Bool.{cond-true, cond-false, cases_eq, cond_both, eq-eqb, ne_eqb, false_from_ne_true, and_parts, leb-true}
 use Rattle.std.proofs.lemmas.Bool.Decides.{nat_tests}
 use Rattle.std.specs.List.{list_all}
 use Rattle.std.proofs.lemmas.Fmt.{length-decimal-le, decimal_nonempty, decimal_injective}
@@ -11,26 +11,22 @@ use Rattle.std.specs.Fmt.{digits}
 use Rattle.std.specs.Option.{option_map}
 use Rattle.std.specs.Str.{bytes_eq}
 use Rattle.std.specs.Net.Reader.{read_ipv4, read_octet, read_number, read_ipv6, read_segments, read_segment}
-use Rattle.num_range.specs.Range.{PlainRange, IsRange}
+use Rattle.num_range.specs.Range.{PlainRange}
 use Rattle.addr_text.specs.Reading.{range_of, block_of_text, whole_block_of, first_to_last_of}
 use Rattle.addr_text.proofs.Computed.{same_value, IsDecimalUpTo, decimal_spelled}
 use Rattle.reg_entry.specs.declared.card.Card.{Card}
 use Rattle.reg_entry.specs.declared.card.Status.{Status}
 use Rattle.reg_entry.specs.declared.card.Status.TheVariants.{Available, Reserved, Quarantine, Allocated, Assigned}
-use Rattle.reg_entry.specs.Days.{last_date, two_digits, date_text, date_of_day, day_text, day_of_text, SpellsDay}
+use Rattle.reg_entry.specs.Days.{last_date, two_digits, date_text, date_of_day, day_text, day_of_text}
 use Rattle.reg_entry.specs.Entry.{PlainEntry}
 use Rattle.reg_entry.specs.Name.{is_name_byte, is_name}
 use Rattle.reg_entry.proofs.DayTexts.{day_value}
-use Rattle.desk_lang.specs.declared.line.Line.TheVariants.{Request}
-use Rattle.desk_lang.specs.declared.rest.Form.TheVariants.{Plain}
-use Rattle.desk_lang.specs.declared.rest.Malformed.{Malformed}
 use Rattle.desk_lang.specs.EntryText.{cover_word, holder_word, day_word, card_text, entry_text}
-use Rattle.desk_lang.specs.EntryReading.{IsWritableCover, IsHolderNumber, IsWritableCard, IsWritableEntry, SpellsEntry, optional, card_day_of, seq_of, status_of_word, card_of_words, request_of_line, request_of_rest, entry_line}
+use Rattle.desk_lang.specs.EntryReading.{IsWritableCover, IsHolderNumber, IsWritableCard, IsWritableEntry, SpellsEntry, optional, card_day_of, seq_of, status_of_word, card_of_words, request_of_line, entry_line}
 use Rattle.desk_lang.specs.RequestText.{range_word, request_text}
 use Rattle.desk_lang.specs.Values.{label_of, decimal_of}
 use Rattle.desk_lang.specs.Vocabulary.{status_word}
-use Rattle.desk_lang.specs.Words.{PlainRest, rest_at, next_value, ◌>>=◌}
-use Rattle.desk_lang.specs.Grammar.{line_of}
+use Rattle.desk_lang.specs.Words.{rest_at, ◌>>=◌}
 use Rattle.desk_lang.proofs.ReadWords.{IsWordByte, IsWord, first_read, plain_read}
 use Rattle.desk_lang.proofs.WordForms.{decimal_bytes, range_is_word, length_range, all_from_test}
 use Rattle.desk_lang.proofs.ReadValues.{decimal_back, range_back, label_back}

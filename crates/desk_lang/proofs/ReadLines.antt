@@ -1,8 +1,8 @@
 -- A request's written text is read as the request.
-use Rattle.std.proofs.Common.{◌≡◌, ◌≢◌, ℕ, zero, suc, ◌+◌, ◌*◌, ◌^◌, ◌<◌, ◌≤◌, Bool, true, false, ◌==◌, ◌&&◌, not, nat_lt, List, [], ◌∷◌, ◌++◌, length, All, Option, None, Some, Result, Ok, Err, decimal, codes, refl, sym, ap, ◌∙◌, subst, arith, append_assoc, append-nil, length-append}
+use Rattle.std.proofs.Common.{◌≡◌, ℕ, zero, suc, ◌+◌, ◌*◌, ◌^◌, ◌<◌, ◌≤◌, Bool, true, ◌==◌, ◌&&◌, not, nat_lt, List, [], ◌∷◌, ◌++◌, length, Option, None, Some, Result, Ok, decimal, codes, refl, sym, ap, ◌∙◌, subst, arith, append_assoc, append-nil, length-append}
 use Rattle.std.proofs.lemmas.Bool.{le-ltb, cond-false}
 use Rattle.std.proofs.lemmas.Fmt.{length-decimal-le, decimal_nonempty}
-use Rattle.std.proofs.lemmas.List.Elements.{All-nil, All-cons, recursion_from_All}
+use Rattle.std.proofs.lemmas.List.Elements.{All-cons, recursion_from_All}
 use Rattle.std.specs.List.{AllByRecursion, list_all}
 use Rattle.std.proofs.lemmas.Bool.Decides.{nat_tests}
 use Rattle.std.proofs.lemmas.Option.{none-some}
@@ -26,7 +26,6 @@ use Rattle.reg_entry.specs.Handle.{is_handle}
 use Rattle.reg_entry.specs.Host.{is_host}
 use Rattle.reg_entry.specs.Request.{status_of, has_size}
 use Rattle.reg_entry.specs.Text.{is_text}
-use Rattle.desk_lang.specs.declared.line.Line.{Line}
 use Rattle.desk_lang.specs.declared.line.Line.TheVariants.{Request}
 use Rattle.desk_lang.specs.declared.rest.Form.TheVariants.{Plain, Quoted}
 use Rattle.desk_lang.specs.declared.rest.Malformed.{Malformed}
@@ -37,7 +36,7 @@ use Rattle.desk_lang.specs.Words.{PlainRest, PlainWord, rest_at, ends_word, firs
 use Rattle.desk_lang.specs.Grammar.{range_line, number_line, range_and_handle, holder_line, delegate_line, transfer_line, more_hosts, reverse_line, requested, line_of_word, line_of}
 use Rattle.desk_lang.specs.Writable.{IsWritableHolder, IsWritable}
 use Rattle.desk_lang.proofs.Hosts.{hosts_behind}
-use Rattle.desk_lang.proofs.ReadWords.{IsWordByte, IsWord, plain_at, plain_first, plain_read, last_read, quoted_read, last_quoted_read}
+use Rattle.desk_lang.proofs.ReadWords.{IsWordByte, IsWord, plain_first, plain_read, last_read, quoted_read, last_quoted_read}
 use Rattle.desk_lang.proofs.WordForms.{all_from_test, decimal_bytes, number_bytes, length_number, length_range, range_is_word, handle_is_word, length_handle, length_cc, cc_is_word, text_has_no_quote, length_text, length_host, host_is_word}
 use Rattle.desk_lang.proofs.ReadValues.{number_back, range_back, label_back, kind_back, space_back, delegation_back, amount_fits, amount_back}
 

@@ -1,5 +1,5 @@
 -- What was written of a value has that value.
-use Rattle.std.proofs.Common.{◌≡◌, ◌≢◌, ℕ, ◌-◌, ◌^◌, ◌<◌, ◌≤◌, Bool, true, nat_le, List, [], ◌∷◌, ◌++◌, Option, None, Some, decimal, codes, refl, sym, ap, ◌∙◌, arith, cond}
+use Rattle.std.proofs.Common.{◌≡◌, ℕ, ◌-◌, ◌^◌, ◌<◌, Bool, true, nat_le, List, None, Some, decimal, refl, sym, ap, ◌∙◌, arith, cond}
 use Rattle.std.proofs.lemmas.Bool.{and_parts, leb-true, cond-true}
 use Rattle.std.proofs.lemmas.Fmt.{decimal_injective}
 use Rattle.std.specs.Option.{option_and_then}

@@ -1,5 +1,5 @@
 -- The entry that a text spells, and how one is found: its words, one behind the other, and the request's line.
-use Rattle.std.specs.Prelude.{◌≡◌, ℕ, ◌-◌, ◌^◌, ◌<◌, ◌≤◌, true, Bool, if◌then◌else◌, List, length, Option, None, Some, Result, Ok, Err, codes, decimal, IsTrue}
+use Rattle.std.specs.Prelude.{◌≡◌, ℕ, ◌-◌, ◌^◌, ◌<◌, ◌≤◌, if◌then◌else◌, List, Option, None, Some, Result, Ok, Err, codes, IsTrue}
 use Rattle.std.specs.Option.{option_map}
 use Rattle.std.specs.Str.{bytes_eq}
 use Rattle.num_range.specs.Range.{PlainRange, IsRange}
@@ -12,10 +12,10 @@ use Rattle.reg_entry.specs.Days.{last_date, day_of_text}
 use Rattle.reg_entry.specs.Entry.{PlainEntry}
 use Rattle.reg_entry.specs.Name.{is_name}
 use Rattle.desk_lang.specs.declared.line.Line.{Line}
-use Rattle.desk_lang.specs.declared.line.Line.TheVariants.{Request, Show, Due, Day, By, Nothing}
+use Rattle.desk_lang.specs.declared.line.Line.TheVariants.{Request}
 use Rattle.desk_lang.specs.declared.rest.Form.TheVariants.{Plain}
 use Rattle.desk_lang.specs.declared.rest.Malformed.{Malformed}
-use Rattle.desk_lang.specs.EntryText.{CardHasDates, entry_text}
+use Rattle.desk_lang.specs.EntryText.{entry_text}
 use Rattle.desk_lang.specs.Vocabulary.{status_word}
 use Rattle.desk_lang.specs.Words.{PlainRest, next_value, malformed_at, ◌>>=◌}
 use Rattle.desk_lang.specs.Values.{label_of, decimal_of}

@@ -1,4 +1,4 @@
-use Rattle.std.proofs.Common.{◌≡◌, ◌∙◌, ◌≤◌, Ok, length, ap, subst, sym, arith}
+use Rattle.std.proofs.Common.{◌≡◌, ◌∙◌, length, ap, subst, arith}
 use Rattle.desk_lang.specs.EntryReading.{IsWritableEntry}
 use Rattle.desk_lang.specs.EntryText.{entry_text}
 use Rattle.desk_lang.proofs.ReadEntries.{entry_found, length_entry}
