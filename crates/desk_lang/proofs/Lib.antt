@@ -6,3 +6,4 @@ pub mod ReadWords
 pub mod WordForms
 pub mod ReadValues
 pub mod ReadLines
+pub mod ReadEntries

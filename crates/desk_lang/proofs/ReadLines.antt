@@ -1,8 +1,8 @@
 -- A request's written text is read as the request.
-use Rattle.std.proofs.Common.{◌≡◌, ◌≢◌, ℕ, zero, suc, ◌+◌, ◌*◌, ◌^◌, ◌<◌, ◌≤◌, Bool, true, false, ◌==◌, ◌&&◌, not, nat_lt, List, [], ◌∷◌, ◌++◌, length, All, Option, None, Some, Result, Ok, Err, decimal, codes, refl, sym, ap, ◌∙◌, subst, arith, append_assoc, append-nil, length-append}
+use Rattle.std.proofs.Common.{◌≡◌, ℕ, zero, suc, ◌+◌, ◌*◌, ◌^◌, ◌<◌, ◌≤◌, Bool, true, ◌==◌, ◌&&◌, not, nat_lt, List, [], ◌∷◌, ◌++◌, length, Option, None, Some, Result, Ok, decimal, codes, refl, sym, ap, ◌∙◌, subst, arith, append_assoc, append-nil, length-append}
 use Rattle.std.proofs.lemmas.Bool.{le-ltb, cond-false}
 use Rattle.std.proofs.lemmas.Fmt.{length-decimal-le, decimal_nonempty}
-use Rattle.std.proofs.lemmas.List.Elements.{All-nil, All-cons}
+use Rattle.std.proofs.lemmas.List.Elements.{All-cons, recursion_from_All}
 use Rattle.std.specs.List.{AllByRecursion, list_all}
 use Rattle.std.proofs.lemmas.Bool.Decides.{nat_tests}
 use Rattle.std.proofs.lemmas.Option.{none-some}
@@ -26,7 +26,6 @@ use Rattle.reg_entry.specs.Handle.{is_handle}
 use Rattle.reg_entry.specs.Host.{is_host}
 use Rattle.reg_entry.specs.Request.{status_of, has_size}
 use Rattle.reg_entry.specs.Text.{is_text}
-use Rattle.desk_lang.specs.declared.line.Line.{Line}
 use Rattle.desk_lang.specs.declared.line.Line.TheVariants.{Request}
 use Rattle.desk_lang.specs.declared.rest.Form.TheVariants.{Plain, Quoted}
 use Rattle.desk_lang.specs.declared.rest.Malformed.{Malformed}
@@ -37,7 +36,7 @@ use Rattle.desk_lang.specs.Words.{PlainRest, PlainWord, rest_at, ends_word, firs
 use Rattle.desk_lang.specs.Grammar.{range_line, number_line, range_and_handle, holder_line, delegate_line, transfer_line, more_hosts, reverse_line, requested, line_of_word, line_of}
 use Rattle.desk_lang.specs.Writable.{IsWritableHolder, IsWritable}
 use Rattle.desk_lang.proofs.Hosts.{hosts_behind}
-use Rattle.desk_lang.proofs.ReadWords.{IsWordByte, IsWord, plain_at, plain_first, plain_read, last_read, quoted_read, last_quoted_read}
+use Rattle.desk_lang.proofs.ReadWords.{IsWordByte, IsWord, plain_first, plain_read, last_read, quoted_read, last_quoted_read}
 use Rattle.desk_lang.proofs.WordForms.{all_from_test, decimal_bytes, number_bytes, length_number, length_range, range_is_word, handle_is_word, length_handle, length_cc, cc_is_word, text_has_no_quote, length_text, length_host, host_is_word}
 use Rattle.desk_lang.proofs.ReadValues.{number_back, range_back, label_back, kind_back, space_back, delegation_back, amount_fits, amount_back}
 
@@ -61,7 +60,7 @@ is_word_byte b = not (b == 32) && not (b == 9) && not (b == 34)
 word_byte : (b : ℕ) → is_word_byte b ≡ true → IsWordByte b
 word_byte b h = (λ e. grind (arith, nat_tests), λ e. grind (arith, nat_tests), λ e. grind (arith, nat_tests))
 
-literal_word : (word : List ℕ) → 0 < length word → list_all is_word_byte word ≡ true → IsWord word
+pub literal_word : (word : List ℕ) → 0 < length word → list_all is_word_byte word ≡ true → IsWord word
 literal_word word some h = record { some = some; bytes = all_from_test is_word_byte IsWordByte word_byte word h }
 
 kind_is_word : (kind : Kind) → IsWord (kind_word kind)
@@ -77,7 +76,7 @@ status_is_word : (status : Delegation) → IsWord (status_word (status_of status
 status_is_word Allocate = literal_word (codes "allocated") (omega arith) refl
 status_is_word Assign = literal_word (codes "assigned") (omega arith) refl
 
-decimal_is_word : (n : ℕ) → n < 2 ^ 32 → IsWord (decimal n)
+pub decimal_is_word : (n : ℕ) → n < 2 ^ 32 → IsWord (decimal n)
 decimal_is_word n h = record { some = decimal_nonempty n (omega arith); bytes = decimal_bytes n (omega arith) }
 
 amount_is_word : (space : Space) (amount : ℕ) → amount < 2 ^ 32 → IsWord (amount_text space amount)
@@ -217,22 +216,22 @@ reverse_reads r (host ∷ hosts) hr some few are place =
 
 -- ---- requests
 
-pub request_reads : (r : ARequest) → IsWritable r → line_of_word (first_word (rest_at 1 (request_text r))) ≡ Ok (Request r)
-request_reads (Receive range) h = ap (requested (λ range. Receive range)) (range_reads range h 8)
-request_reads (AddHolder holder) h = ap (requested (λ holder. AddHolder holder)) (holder_reads holder h 7)
-request_reads (EditHolder holder) h = ap (requested (λ holder. EditHolder holder)) (holder_reads holder h 5)
-request_reads (Delegate space amount status handle) h = ap (requested (λ request. request)) (delegate_reads space amount status handle h.0 h.1 9)
-request_reads (Reserve range) h = ap (requested (λ range. Reserve range)) (range_reads range h 8)
-request_reads (Unreserve range) h = ap (requested (λ range. Unreserve range)) (range_reads range h 10)
-request_reads (SubAssign range handle) h = ap (requested (λ p. SubAssign p.0 p.1)) (held_reads range handle h.0 h.1 4)
-request_reads (SubReturn range) h = ap (requested (λ range. SubReturn range)) (range_reads range h 6)
-request_reads (Return range handle) h = ap (requested (λ p. Return p.0 p.1)) (held_reads range handle h.0 h.1 7)
-request_reads (Release range) h = ap (requested (λ range. Release range)) (range_reads range h 8)
-request_reads (Split at) h = ap (requested (λ at. Split at)) (number_reads at h 6)
-request_reads (Join at) h = ap (requested (λ at. Join at)) (number_reads at h 5)
-request_reads (Transfer range from to) h = ap (requested (λ request. request)) (transfer_reads range from to h.0 h.1 h.2 9)
-request_reads (SetReverse range servers) h = ap (requested (λ request. request)) (reverse_reads range servers h.0 h.1 h.2 h.3 8)
-request_reads (ClearReverse range) h = ap (requested (λ range. ClearReverse range)) (range_reads range h 10)
+pub request_reads : (r : ARequest) → IsWritable r → (place : ℕ) → line_of_word (first_word (rest_at place (request_text r))) ≡ Ok (Request r)
+request_reads (Receive range) h place = ap (requested (λ range. Receive range)) (range_reads range h (place + 7))
+request_reads (AddHolder holder) h place = ap (requested (λ holder. AddHolder holder)) (holder_reads holder h (place + 6))
+request_reads (EditHolder holder) h place = ap (requested (λ holder. EditHolder holder)) (holder_reads holder h (place + 4))
+request_reads (Delegate space amount status handle) h place = ap (requested (λ request. request)) (delegate_reads space amount status handle h.0 h.1 (place + 8))
+request_reads (Reserve range) h place = ap (requested (λ range. Reserve range)) (range_reads range h (place + 7))
+request_reads (Unreserve range) h place = ap (requested (λ range. Unreserve range)) (range_reads range h (place + 9))
+request_reads (SubAssign range handle) h place = ap (requested (λ p. SubAssign p.0 p.1)) (held_reads range handle h.0 h.1 (place + 3))
+request_reads (SubReturn range) h place = ap (requested (λ range. SubReturn range)) (range_reads range h (place + 5))
+request_reads (Return range handle) h place = ap (requested (λ p. Return p.0 p.1)) (held_reads range handle h.0 h.1 (place + 6))
+request_reads (Release range) h place = ap (requested (λ range. Release range)) (range_reads range h (place + 7))
+request_reads (Split at) h place = ap (requested (λ at. Split at)) (number_reads at h (place + 5))
+request_reads (Join at) h place = ap (requested (λ at. Join at)) (number_reads at h (place + 4))
+request_reads (Transfer range from to) h place = ap (requested (λ request. request)) (transfer_reads range from to h.0 h.1 h.2 (place + 8))
+request_reads (SetReverse range servers) h place = ap (requested (λ request. request)) (reverse_reads range servers h.0 h.1 h.2 (recursion_from_All (λ host. is_host host ≡ true) servers h.3) (place + 7))
+request_reads (ClearReverse range) h place = ap (requested (λ range. ClearReverse range)) (range_reads range h (place + 9))
 
 -- ---- the length of a request
 
@@ -254,7 +253,7 @@ length_status : (status : Delegation) → length (status_word (status_of status)
 length_status Allocate = omega arith
 length_status Assign = omega arith
 
-length_two : (most : ℕ) (a b : List ℕ) → length a ≤ most → length (a ++ codes " " ++ b) ≤ most + 1 + length b
+pub length_two : (most : ℕ) (a b : List ℕ) → length a ≤ most → length (a ++ codes " " ++ b) ≤ most + 1 + length b
 length_two most a b h = omega (arith, h, length-append (a ++ codes " ") b, length-append a (codes " "))
 
 length_held : (verb word handle : List ℕ) → length verb ≤ 10 → length word ≤ 85 → length handle ≤ 24 → length (verb ++ word ++ codes " " ++ handle) ≤ 120
@@ -306,7 +305,7 @@ length_request (Transfer range from to) h =
     let front = length_held (codes "transfer ") (range_word range) from (omega arith) (length_range range h.0) (length_handle from h.1) in
     omega (arith, length_two 120 (codes "transfer " ++ range_word range ++ codes " " ++ from) to front, length_handle to h.2)
 length_request (SetReverse range servers) h =
-    omega (arith, length_range range h.0, length_hosts servers h.3, h.2, length-append (codes "reverse " ++ range_word range) (hosts_text servers), length-append (codes "reverse ") (range_word range))
+    omega (arith, length_range range h.0, length_hosts servers (recursion_from_All (λ host. is_host host ≡ true) servers h.3), h.2, length-append (codes "reverse " ++ range_word range) (hosts_text servers), length-append (codes "reverse ") (range_word range))
 length_request (ClearReverse range) h = omega (arith, length_range range h)
 
 -- ---- lines
@@ -314,4 +313,10 @@ length_request (ClearReverse range) h = omega (arith, length_range range h)
 pub written_reads : (r : ARequest) → IsWritable r → line_of (request_text r) ≡ Ok (Request r)
 written_reads r h =
     cond-false (nat_lt 1024 (length (request_text r))) _ _ (le-ltb 1024 (length (request_text r)) (omega (arith, length_request r h)))
-    ∙ request_reads r h
+    ∙ request_reads r h 1
+
+-- behind a blank
+pub behind_blank_reads : (r : ARequest) → IsWritable r → line_of (32 ∷ request_text r) ≡ Ok (Request r)
+behind_blank_reads r h =
+    cond-false (nat_lt 1024 (length (32 ∷ request_text r))) _ _ (le-ltb 1024 (length (32 ∷ request_text r)) (omega (arith, length_request r h)))
+    ∙ request_reads r h 2

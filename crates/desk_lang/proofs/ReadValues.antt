@@ -1,5 +1,5 @@
 -- What was written of a value has that value.
-use Rattle.std.proofs.Common.{◌≡◌, ◌≢◌, ℕ, ◌-◌, ◌^◌, ◌<◌, ◌≤◌, Bool, true, false, List, [], ◌∷◌, ◌++◌, Option, None, Some, decimal, codes, refl, sym, ap, ◌∙◌, arith, cond}
+use Rattle.std.proofs.Common.{◌≡◌, ℕ, ◌-◌, ◌^◌, ◌<◌, Bool, true, nat_le, List, None, Some, decimal, refl, sym, ap, ◌∙◌, arith, cond}
 use Rattle.std.proofs.lemmas.Bool.{and_parts, leb-true, cond-true}
 use Rattle.std.proofs.lemmas.Fmt.{decimal_injective}
 use Rattle.std.specs.Option.{option_and_then}
@@ -46,16 +46,16 @@ pub delegation_back : (status : Delegation) → delegation_of (status_word (stat
 delegation_back Allocate = refl
 delegation_back Assign = refl
 
-decimal_back : (n : ℕ) → n < 2 ^ 32 → decimal_of (decimal n) ≡ Some n
+pub decimal_back : (n : ℕ) → n < 2 ^ 32 → decimal_of (decimal n) ≡ Some n
 decimal_back n fits =
     sym (same_value (IsDecimalUpTo (2 ^ 32 - 1) (decimal n)) (λ x y h k. decimal_injective x y (omega (arith, h.1)) (omega (arith, k.1)) (sym h.0 ∙ k.0))
     (Some n) (decimal_of (decimal n)) (refl, omega arith) tt (decimal_spelled (2 ^ 32 - 1) (decimal n) (omega arith)))
 
 -- an amount that can be asked for is at most 1,024
 pub amount_fits : (space : Space) (amount : ℕ) → has_size space amount ≡ true → amount < 2 ^ 32
-amount_fits Asn amount h = let most = leb-true amount 1024 (and_parts _ _ h).1 in omega arith
+amount_fits Asn amount h = let most = leb-true amount 1024 (and_parts (nat_le 1 amount) (nat_le amount 1024) h).1 in omega arith
 amount_fits Ipv4 amount h = let most = leb-true amount 32 h in omega arith
-amount_fits Ipv6 amount h = let most = leb-true amount 128 (and_parts _ _ h).1 in omega arith
+amount_fits Ipv6 amount h = let most = leb-true amount 128 (and_parts (nat_le 3 amount) (nat_le amount 128) h).1 in omega arith
 
 spelled_back : (space : Space) (amount : ℕ) → amount < 2 ^ 32 → spelled_amount space (amount_text space amount) ≡ Some amount
 spelled_back Asn amount h = decimal_back amount h

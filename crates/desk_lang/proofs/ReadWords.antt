@@ -1,5 +1,5 @@
 -- A word that was written is the first that is read, and what stands behind it is left.
-use Rattle.std.proofs.Common.{◌≡◌, ◌≢◌, ℕ, suc, ◌+◌, ◌<◌, true, false, ◌||◌, ◌==◌, List, [], ◌∷◌, ◌++◌, length, take, drop, All, Option, None, Some, Result, Ok, Err, codes, refl, sym, ap, ◌∙◌, subst, arith, append_assoc, append-nil, ne_eqb, cond}
+use Rattle.std.proofs.Common.{◌≡◌, ◌≢◌, ℕ, suc, ◌+◌, ◌<◌, true, false, ◌==◌, List, [], ◌∷◌, ◌++◌, length, All, Option, Some, Result, Ok, refl, ap, ◌∙◌, subst, arith, append_assoc, append-nil, ne_eqb}
 use Rattle.std.proofs.lemmas.Bool.{cond-true, cond-false}
 use Rattle.std.proofs.lemmas.List.Elements.{All-head, All-tail}
 use Rattle.std.proofs.Math.Seq.{take-append_seam, drop-append_seam}
@@ -8,7 +8,7 @@ use Rattle.addr_text.specs.Reading.{parted_at}
 use Rattle.desk_lang.specs.declared.rest.Form.TheVariants.{Plain, Quoted}
 use Rattle.desk_lang.specs.declared.rest.Malformed.{Malformed}
 use Rattle.desk_lang.specs.Vocabulary.{quoted}
-use Rattle.desk_lang.specs.Words.{PlainRest, PlainWord, is_blank, rest_at, without_blanks, word_length, plain_word, ends_word, quoted_word, word_at, word_of, first_word, word_in, next_word, end_place, value_of_word, next_value, ◌>>=◌}
+use Rattle.desk_lang.specs.Words.{PlainRest, PlainWord, is_blank, rest_at, without_blanks, word_length, plain_word, ends_word, quoted_word, word_of, first_word, word_in, end_place, value_of_word, next_value, ◌>>=◌}
 
 -- no blank, no tab and no quote
 abbrev pub IsWordByte : ℕ → Type 0
@@ -68,6 +68,14 @@ module _ {T U : Type 0} (value : List ℕ → Option T) (x : T) (read : T × Pla
       ap (λ o. (word_in Plain (end_place (rest_at place (32 ∷ word ++ more))) o >>= λ w. value_of_word w (value w.bytes)) >>= read) (plain_first (place + 1) word more h e)
       ∙ ap (λ o. value_of_word (plain_at (place + 1) word more) o >>= read) v
       ∙ behind (place + 1 + length word)
+
+  -- the first word of a line
+  pub first_read : (word more : List ℕ) → IsWord word → value word ≡ Some x → ends_word more ≡ true → ((place : ℕ) → read (x, rest_at place more) ≡ Ok y)
+      → (place : ℕ) → (next_value Plain value (rest_at place (word ++ more)) >>= read) ≡ Ok y
+  first_read word more h v e behind place =
+      ap (λ o. (word_in Plain (end_place (rest_at place (word ++ more))) o >>= λ w. value_of_word w (value w.bytes)) >>= read) (plain_first place word more h e)
+      ∙ ap (λ o. value_of_word (plain_at place word more) o >>= read) v
+      ∙ behind (place + length word)
 
   -- the last word of a line
   pub last_read : (word : List ℕ) → IsWord word → value word ≡ Some x → ((place : ℕ) → read (x, rest_at place []) ≡ Ok y)

@@ -1,22 +1,20 @@
 -- What is written as one word is one: it has a byte, and neither a blank nor a quote.
-use Rattle.std.proofs.Common.{◌≡◌, ◌≢◌, ℕ, zero, suc, ◌+◌, ◌*◌, ◌/◌, ◌%◌, ◌^◌, ◌<◌, ◌≤◌, ◌⊎◌, Bool, true, false, ◌==◌, ◌&&◌, nat_le, List, [], ◌∷◌, ◌++◌, length, get_or, take, drop, flat_map, All, Option, None, Some, decimal, codes, refl, sym, ap, ◌∙◌, subst, inl, inr, arith, length-append, length-drop, length-take, ltb, true≢false, cond}
-use Rattle.std.proofs.lemmas.Bool.{and_parts, and_from, or_cases, eqb-true, leb-true, cases_Bool, cases_lt, cond_both, cond-true, cond-false}
+use Rattle.std.proofs.Common.{◌≡◌, ◌≢◌, ℕ, zero, suc, ◌+◌, ◌*◌, ◌^◌, ◌<◌, ◌≤◌, Bool, true, ◌==◌, ◌&&◌, nat_le, List, [], ◌∷◌, ◌++◌, length, get_or, take, drop, flat_map, All, decimal, codes, refl, sym, ap, ◌∙◌, inl, inr, arith, length-append, length-drop, length-take, ltb, true≢false}
+use Rattle.std.proofs.lemmas.Bool.{and_parts, and_from, eqb-true, leb-true, cases_Bool, cond_both, cond-true, cond-false}
 use Rattle.std.proofs.lemmas.Bool.Decides.{nat_tests}
-use Rattle.std.proofs.lemmas.Fmt.{decimal_is_IsNumeral, length-decimal-le, decimal_nonempty}
-use Rattle.std.proofs.lemmas.List.Elements.{All-nil, All-cons, All-head, All-tail, All-append, All-weaker, All-from_get_or}
+use Rattle.std.proofs.lemmas.Fmt.{decimal_is_IsNumeral, length-decimal-le}
+use Rattle.std.proofs.lemmas.List.Elements.{All-nil, All-cons, All-append, All-weaker, All-from_get_or}
 use Rattle.std.proofs.lemmas.Str.Parse.{digit_at}
 use Rattle.std.proofs.NetLemmas.Alphabet.{IsDigitOrDot, IsHexOrColon, All-ipv4_text, All-hex_groups_text}
-use Rattle.std.proofs.NetLemmas.Texts.{AllSegments}
-use Rattle.std.specs.Int.{IsInRange, w32, to_be_bytes}
-use Rattle.std.specs.List.{list_all, slice_split, onto_first}
-use Rattle.std.specs.Net.Text.{dotted_text, ipv4_text, hex, groups_text, leading_zero_digits, longest_zero_run, compressed_text, hex_groups_text}
+use Rattle.std.specs.Int.{w32, to_be_bytes}
+use Rattle.std.specs.List.{list_all, onto_first}
+use Rattle.std.specs.Net.Text.{dotted_text, hex, groups_text, longest_zero_run, compressed_text, hex_groups_text}
 use Rattle.num_range.specs.declared.space.Space.{Space}
 use Rattle.num_range.specs.declared.space.Space.TheVariants.{Asn, Ipv4, Ipv6}
 use Rattle.num_range.specs.Space.{top_of}
-use Rattle.num_range.specs.Number.{PlainNumber, IsNumber}
 use Rattle.num_range.specs.Range.{PlainRange, IsRange}
 use Rattle.addr_text.specs.Address.{groups_of}
-use Rattle.addr_text.specs.Number.{text_of, number_text}
+use Rattle.addr_text.specs.Number.{text_of}
 use Rattle.reg_entry.specs.Cc.{is_cc}
 use Rattle.reg_entry.specs.Handle.{is_capital, is_handle_byte, is_handle}
 use Rattle.reg_entry.specs.Host.{is_host_byte, is_host_label, host_labels, is_host}

@@ -7,3 +7,4 @@ pub mod Words
 pub mod Values
 pub mod Grammar
 pub mod Writable
+pub mod EntryReading

@@ -1,6 +1,6 @@
 -- Which requests have a written text that is read again: those whose parts are of their forms.
-use Rattle.std.specs.Prelude.{◌≤◌, Bool, List, length, IsTrue}
-use Rattle.std.specs.List.{AllByRecursion}
+use Rattle.std.specs.Prelude.{ℕ, ◌≤◌, List, length, IsTrue}
+use Rattle.std.specs.List.{All}
 use Rattle.num_range.specs.Number.{IsNumber}
 use Rattle.num_range.specs.Range.{IsRange}
 use Rattle.reg_entry.specs.declared.holder.Holder.{Holder}
@@ -19,6 +19,9 @@ pub record IsWritableHolder (h : Holder) : Type 0 where
   pub name : IsTrue (is_text h.name)
   pub email : IsTrue (is_text h.email)
 
+abbrev pub AreWritableHosts : List (List ℕ) → Type 0
+AreWritableHosts hosts = All (λ host. IsTrue (is_host host)) hosts
+
 -- ranges and numbers are those of their spaces, an amount can be asked for, handles are of their form, and a reverse
 -- entry has one to four hosts
 abbrev pub IsWritable : Request → Type 0
@@ -36,5 +39,5 @@ IsWritable (Split at) = IsNumber at
 IsWritable (Join at) = IsNumber at
 IsWritable (Transfer range from to) = IsRange range × IsTrue (is_handle from) × IsTrue (is_handle to)
 IsWritable (SetReverse range servers) =
-    IsRange range × (1 ≤ length servers) × (length servers ≤ 4) × AllByRecursion (λ host. IsTrue (is_host host)) servers
+    IsRange range × (1 ≤ length servers) × (length servers ≤ 4) × AreWritableHosts servers
 IsWritable (ClearReverse range) = IsRange range

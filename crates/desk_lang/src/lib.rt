@@ -3,6 +3,7 @@
 #![tactic(auto)]
 
 mod append;
+mod entry_line;
 mod entry_text;
 pub mod laws;
 mod line;
@@ -16,9 +17,11 @@ mod shown_text;
 mod values;
 mod verb;
 mod vocabulary;
+mod writable;
 #[cfg(test)]
 mod write_tests;
 
+pub use entry_line::read_entry;
 pub use entry_text::write_entry;
 pub use line::{LINE_ROOM, Line, read_line};
 pub use parted::parted_at;
@@ -26,3 +29,4 @@ pub use reply_text::write_reply;
 pub use request_text::write_request;
 pub use rest::Malformed;
 pub use shown_text::write_piece;
+pub use writable::is_writable;

@@ -1,7 +1,7 @@
 use crate::write_tests::{FOUR, SIX, handle, holder, host, number, range, servers};
-use crate::{Line, read_line};
+use crate::{Line, is_writable, read_entry, read_line};
 use num_range::{Number, Space};
-use reg_entry::{Delegation, Kind, Name, Request};
+use reg_entry::{Card, Delegation, Entry, Kind, Name, Request, Status};
 use std::process::Abort;
 use std::test::Fail;
 
@@ -14,16 +14,18 @@ fn is_request(rt: &impl Abort, text: &str, request: &Request) {
 }
 
 fn is_shown(rt: &impl Abort, text: &str, number: &Number) {
-    let is_read = match read_line(text.as_bytes()) {
-        Ok(Line::Show(read)) => read == *number,
+    let line = read_line(text.as_bytes());
+    let is_read = match &line {
+        Ok(Line::Show(read)) => read == number,
         _ => false,
     };
     assert!(rt; is_read, "{text}");
 }
 
 fn is_by(rt: &impl Abort, text: &str, name: &Name) {
-    let is_read = match read_line(text.as_bytes()) {
-        Ok(Line::By(read)) => read == *name,
+    let line = read_line(text.as_bytes());
+    let is_read = match &line {
+        Ok(Line::By(read)) => read == name,
         _ => false,
     };
     assert!(rt; is_read, "{text}");
@@ -401,4 +403,88 @@ fn lines_of_ranges_and_holders(rt: HostRuntime) -> Result<(), Fail> {
         is_request(&rt, text, request);
     }
     Ok(())
+}
+
+fn is_entry(rt: &impl Abort, text: &str, entry: &Entry) {
+    let is_read = match read_entry(text.as_bytes()) {
+        Some(read) => read == *entry,
+        None => false,
+    };
+    assert!(rt; is_read, "{text}");
+}
+
+// 19783 is 2024-03-01, and 20148 a year later.
+#[test]
+fn entries_are_read(rt: HostRuntime) -> Result<(), Fail> {
+    let who = Name::read(b"local").ok_or("a name")?;
+    let range = range(Space::Ipv4, FOUR, FOUR + 63)?;
+    let handle = handle(b"ORG-A")?;
+    let request = Request::Return { range, handle };
+    is_writable(&request);
+    let returned = Entry {
+        seq: 18446744073709551615,
+        day: 19783,
+        who,
+        request,
+        cover: Some(range),
+        card: Some(Card {
+            status: Status::Quarantine,
+            holder: Some(4294967295),
+            day: 0,
+            until: 20148,
+        }),
+    };
+    is_entry(
+        &rt,
+        "18446744073709551615 20240301 local 192.0.2.0-192.0.2.63 quarantine 4294967295 - 20250301 return 192.0.2.0-192.0.2.63 ORG-A",
+        &returned,
+    );
+    let beta = Entry {
+        seq: 0,
+        day: 1,
+        who,
+        request: Request::EditHolder {
+            holder: holder(b"B2", Kind::EndUser, b"FR", b"Beta  2", b"x")?,
+        },
+        cover: None,
+        card: None,
+    };
+    is_entry(
+        &rt,
+        "0 19700102 local - - - - - edit B2 enduser FR \"Beta  2\" \"x\"",
+        &beta,
+    );
+    Ok(())
+}
+
+// Each of these differs from the text of an entry in one place.
+#[test]
+fn no_entries(rt: HostRuntime) {
+    let rows = [
+        "",
+        "3 20240301 local 192.0.2.0-192.0.2.63 allocated 0 20240301 -",
+        "03 20240301 local 192.0.2.0-192.0.2.63 available - - - receive 192.0.2.0-192.0.2.63",
+        "18446744073709551616 20240301 local - - - - - receive 192.0.2.0-192.0.2.63",
+        "3 19700101 local 192.0.2.0-192.0.2.63 available - - - receive 192.0.2.0-192.0.2.63",
+        "3 20240230 local 192.0.2.0-192.0.2.63 available - - - receive 192.0.2.0-192.0.2.63",
+        "3 20240301 Local 192.0.2.0-192.0.2.63 available - - - receive 192.0.2.0-192.0.2.63",
+        "3 20240301 local 192.0.2.0/26 available - - - receive 192.0.2.0-192.0.2.63",
+        "3 20240301 local - available - - - receive 192.0.2.0-192.0.2.63",
+        "3 20240301 local 192.0.2.0-192.0.2.63 - 0 - - receive 192.0.2.0-192.0.2.63",
+        "3 20240301 local 192.0.2.0-192.0.2.63 free - - - receive 192.0.2.0-192.0.2.63",
+        "3 20240301 local 192.0.2.0-192.0.2.63 available 4294967296 - - receive 192.0.2.0-192.0.2.63",
+        "3 20240301 local 192.0.2.0-192.0.2.63 available - - - receive 192.0.2.0/26",
+        "3 20240301 local 192.0.2.0-192.0.2.63 available - - - receive  192.0.2.0-192.0.2.63",
+        "3 20240301 local 192.0.2.0-192.0.2.63 available - - -  receive 192.0.2.0-192.0.2.63",
+        "3 20240301 local 192.0.2.0-192.0.2.63 available - - - receive 192.0.2.0-192.0.2.63 ",
+        " 3 20240301 local 192.0.2.0-192.0.2.63 available - - - receive 192.0.2.0-192.0.2.63",
+        "3 20240301 local - - - - - show 192.0.2.0",
+        "3 20240301 local - - - - -",
+    ];
+    for text in rows {
+        assert!(rt; read_entry(text.as_bytes()).is_none(), "{text}");
+    }
+    // One blank less, and it is an entry's.
+    let text = "3 20240301 local 192.0.2.0-192.0.2.63 available - - - receive 192.0.2.0-192.0.2.63";
+    assert!(rt; read_entry(text.as_bytes()).is_some());
 }

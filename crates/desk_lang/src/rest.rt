@@ -216,6 +216,20 @@ impl<'a> Rest<'a> {
         Ok(word)
     }
 
+    /// All that is left, with the blanks before the next word.
+    pub fn left(&self) -> &'a [u8]
+        ensures { result.now ≡ self.now.text }
+    {
+        self.text
+    }
+
+    /// The fault of a line that goes wrong here.
+    pub fn malformed(&self) -> Malformed
+        ensures { result ≡ malformed_at self.now.place }
+    {
+        Malformed { place: self.place }
+    }
+
     /// Tests that the line ends here.
     pub fn end(&self) -> Result<(), Malformed>
         ensures { result ≡ at_end tt self.now }

@@ -1,0 +1,286 @@
+//! Entries as they are read from the journal's lines.
+ghost use Rattle.std.specs.Prelude.{◌≡◌, ◌≤◌, ◌<◌, ◌^◌, ◌↔◌, ℕ, length, decimal, Some, IsTrue, IfSome, IfNone, IfOk};
+ghost use Rattle.addr_text.specs.Reading.{range_of};
+ghost use Rattle.reg_entry.specs.Entry.{PlainEntry};
+ghost use Rattle.desk_lang.specs.declared.rest.Form.TheVariants.{Plain};
+ghost use Rattle.desk_lang.specs.EntryReading.{IsHolderNumber, IsWritableCover, IsWritableCard, IsWritableEntry, SpellsEntry, optional, card_day_of, seq_of, status_of_word, card_of_words, request_of_rest, entry_line};
+ghost use Rattle.reg_entry.specs.Days.{last_date};
+ghost use Rattle.desk_lang.specs.EntryText.{CardHasDates, entry_text};
+ghost use Rattle.desk_lang.specs.Grammar.{IsSizedRequest};
+ghost use Rattle.desk_lang.specs.Values.{decimal_of};
+ghost use Rattle.desk_lang.specs.Words.{next_value};
+
+use crate::entry_text::write_entry;
+use crate::line::{LINE_ROOM, Line, read_line};
+use crate::rest::{Form, Malformed, Rest};
+use crate::writable::is_writable;
+use addr_text::{read_decimal, read_range};
+use arrayvec::ArrayVec;
+use itoa::Buffer;
+use num_range::Range;
+use reg_entry::{Card, Entry, Request, Status, read_day};
+
+/// 9999-12-31, the last day that is written.
+const LAST_DATE: u32 = 2_932_896;
+
+/// What a word stands for of which `-` is nothing.
+fn read_cover(word: &[u8]) -> Option<Option<Range>>
+    ensures { result ≡ optional range_of word.now }
+{
+    if word == b"-".as_slice() {
+        return Some(None);
+    }
+    Some(Some(read_range(word)?))
+}
+
+fn read_holder_number(word: &[u8]) -> Option<Option<u32>>
+    ensures { result ≡ optional decimal_of word.now }
+{
+    if word == b"-".as_slice() {
+        return Some(None);
+    }
+    Some(Some(read_decimal(word)?))
+}
+
+fn read_card_day(word: &[u8]) -> Option<u32>
+    ensures { result ≡ card_day_of word.now }
+{
+    if word == b"-".as_slice() {
+        return Some(0);
+    }
+    read_day(word)
+}
+
+fn read_status(word: &[u8]) -> Option<Option<Status>>
+    ensures { result ≡ optional status_of_word word.now }
+{
+    let status = if word == b"-".as_slice() {
+        return Some(None);
+    } else if word == b"available".as_slice() {
+        Status::Available
+    } else if word == b"reserved".as_slice() {
+        Status::Reserved
+    } else if word == b"quarantine".as_slice() {
+        Status::Quarantine
+    } else if word == b"allocated".as_slice() {
+        Status::Allocated
+    } else if word == b"assigned".as_slice() {
+        Status::Assigned
+    } else {
+        return None;
+    };
+    Some(Some(status))
+}
+
+/// The number of 64 bits that the text is the decimal of, or any number or none where it is no such decimal.
+fn parse_seq(text: &[u8]) -> Option<u64>
+    ensures { (n : ℕ) → n < 2 ^ 64 → text.now ≡ decimal n → result ≡ Some n }
+{
+    let Ok(digits) = str::from_utf8(text) else {
+        return None;
+    };
+    digits.parse().ok()
+}
+
+/// The number of 64 bits that the text is the decimal of, without sign or leading zero.
+fn read_seq(text: &[u8]) -> Option<u64>
+    ensures { result ≡ seq_of text.now }
+{
+    let seq = parse_seq(text)?;
+    let mut buffer = Buffer::new();
+    if buffer.format(seq).as_bytes() != text {
+        return None;
+    }
+    Some(seq)
+}
+
+impl<'a> Rest<'a> {
+    fn seq(&self) -> Result<(u64, Rest<'a>), Malformed>
+        ensures { result ≡ next_value Plain seq_of self.now }
+    {
+        let word = self.next_word(Form::Plain)?;
+        match read_seq(word.bytes()) {
+            Some(seq) => Ok((seq, word.behind())),
+            None => Err(word.malformed()),
+        }
+    }
+
+    fn cover(&self) -> Result<(Option<Range>, Rest<'a>), Malformed>
+        ensures { result ≡ next_value Plain (optional range_of) self.now }
+    {
+        let word = self.next_word(Form::Plain)?;
+        match read_cover(word.bytes()) {
+            Some(cover) => Ok((cover, word.behind())),
+            None => Err(word.malformed()),
+        }
+    }
+
+    fn status(&self) -> Result<(Option<Status>, Rest<'a>), Malformed>
+        ensures { result ≡ next_value Plain (optional status_of_word) self.now }
+    {
+        let word = self.next_word(Form::Plain)?;
+        match read_status(word.bytes()) {
+            Some(status) => Ok((status, word.behind())),
+            None => Err(word.malformed()),
+        }
+    }
+
+    fn holder_number(&self) -> Result<(Option<u32>, Rest<'a>), Malformed>
+        ensures { result ≡ next_value Plain (optional decimal_of) self.now }
+    {
+        let word = self.next_word(Form::Plain)?;
+        match read_holder_number(word.bytes()) {
+            Some(holder) => Ok((holder, word.behind())),
+            None => Err(word.malformed()),
+        }
+    }
+
+    fn card_day(&self) -> Result<(u32, Rest<'a>), Malformed>
+        ensures { result ≡ next_value Plain card_day_of self.now }
+    {
+        let word = self.next_word(Form::Plain)?;
+        match read_card_day(word.bytes()) {
+            Some(day) => Ok((day, word.behind())),
+            None => Err(word.malformed()),
+        }
+    }
+
+    /// The request, which is all that is left of the line.
+    fn request(&self) -> Result<Request, Malformed>
+        ensures value { result ≡ request_of_rest self.now }
+        ensures sized { IfOk result IsSizedRequest }
+    {
+        match read_line(self.left()) {
+            Ok(Line::Request(request)) => Ok(request),
+            _ => Err(self.malformed()),
+        }
+    }
+}
+
+fn card_of_words(status: Option<Status>, holder: Option<u32>, day: u32, until: u32) -> Option<Card>
+    ensures { result ≡ card_of_words status holder day until }
+{
+    match status {
+        None => None,
+        Some(status) => Some(Card {
+            status,
+            holder,
+            day,
+            until,
+        }),
+    }
+}
+
+/// The entry of the line's words, whose text may still be another than the one that is written of the entry.
+#[tactic(auto, unfolding(crate::specs::EntryReading::entry_line))]
+fn entry_line(rest: &Rest<'_>) -> Result<Entry, Malformed>
+    ensures value { result ≡ entry_line rest.now }
+    ensures sized { IfOk result (λ e. IsSizedRequest e.request) }
+{
+    let (seq, rest) = rest.seq()?;
+    let (day, rest) = rest.day()?;
+    let (who, rest) = rest.name()?;
+    let (cover, rest) = rest.cover()?;
+    let (status, rest) = rest.status()?;
+    let (holder, rest) = rest.holder_number()?;
+    let (from, rest) = rest.card_day()?;
+    let (until, rest) = rest.card_day()?;
+    let request = rest.request()?;
+    let card = card_of_words(status, holder, from, until);
+    Ok(Entry {
+        seq,
+        day,
+        who,
+        request,
+        cover,
+        card,
+    })
+}
+
+fn has_word(holder: Option<u32>)
+    ensures { IsHolderNumber holder }
+{
+    match holder {
+        None => {}
+        Some(_) => {}
+    }
+}
+
+fn is_dated(card: &Card) -> bool
+    ensures { IsTrue result ↔ ((card.now.day ≤ last_date) × (card.now.until ≤ last_date)) }
+{
+    card.day <= LAST_DATE && card.until <= LAST_DATE
+}
+
+/// Whether the card lies beside a cover and its days are dates.
+fn is_writable_card(cover: &Option<Range>, card: &Option<Card>) -> bool
+    ensures { IsTrue result ↔ IsWritableCard cover.now card.now }
+{
+    match (cover, card) {
+        (_, None) => true,
+        (None, Some(_)) => false,
+        (Some(_), Some(card)) => {
+            has_word(card.holder);
+            is_dated(card)
+        }
+    }
+}
+
+fn has_range(cover: &Option<Range>)
+    ensures { IsWritableCover cover.now }
+{
+    if let Some(range) = cover {
+        let _ = range.first();
+    }
+}
+
+fn has_decimal(seq: u64)
+    ensures { seq < 2 ^ 64 }
+{
+    let _ = seq;
+}
+
+fn is_writable_entry(e: &Entry) -> bool
+    requires { IsSizedRequest e.now.request }
+    ensures { IsTrue result ↔ IsWritableEntry e.now }
+{
+    has_decimal(e.seq);
+    is_writable(&e.request);
+    has_range(&e.cover);
+    let _ = e.who.bytes();
+    if !(1..=LAST_DATE).contains(&e.day) {
+        return false;
+    }
+    is_writable_card(&e.cover, &e.card)
+}
+
+/// Whether the text is the one that is written of the entry.
+fn is_text_of(text: &[u8], e: &Entry) -> bool
+    requires date { e.now.day ≤ last_date }
+    requires card_dates { CardHasDates e.now.card }
+    ensures { IsTrue result ↔ (text.now ≡ entry_text e.now) }
+{
+    let mut written = ArrayVec::new();
+    write_entry(e, &mut written);
+    written.as_slice() == text
+}
+
+/// The entry whose written text this is, or nothing where the text is no entry's.
+pub fn read_entry(text: &[u8]) -> Option<Entry>
+    ensures some { IfSome result (SpellsEntry text.now) }
+    ensures none { IfNone result ((e : PlainEntry) → ¬ (SpellsEntry text.now e)) }
+{
+    if text.len() > LINE_ROOM {
+        return None;
+    }
+    let Ok(entry) = entry_line(&Rest::new(text)) else {
+        return None;
+    };
+    if !is_writable_entry(&entry) {
+        return None;
+    }
+    if !is_text_of(text, &entry) {
+        return None;
+    }
+    Some(entry)
+}
