@@ -72,23 +72,47 @@ fn quarantines_that_end_by_a_day(rt: HostRuntime) -> Result<(), Fail> {
     // In each space some are in quarantine up to the day before 20000, that day and the day after it; and other pieces
     // have such days too.
     let rows = [
-        (Ipv6, DOCUMENTATION6, 0xffff, Quarantine, 20000),
-        (Ipv6, DOCUMENTATION6 + 0x1_0000, 0xffff, Reserved, 20000),
-        (Ipv6, DOCUMENTATION6 + 0x2_0000, 0xffff, Quarantine, 20001),
-        (Ipv6, DOCUMENTATION6 + 0x3_0000, 0xffff, Quarantine, 19999),
-        (Ipv4, 0xc633_6400, 0xff, Quarantine, 20000),
-        (Ipv4, 0xc000_0200, 0x7f, Assigned, 19999),
-        (Ipv4, 0xc000_0280, 0x7f, Quarantine, 19999),
-        (Ipv4, 0xcb00_7100, 0xff, Quarantine, 20001),
-        (Asn, 64500, 3, Quarantine, 20001),
-        (Asn, 64496, 3, Quarantine, 20000),
-        (Asn, 64504, 0, Quarantine, 19999),
-        (Asn, 64505, 0, Available, 0),
-        (Asn, 64506, 0, Allocated, 20000),
+        (
+            Ipv6,
+            DOCUMENTATION6,
+            DOCUMENTATION6 + 0xffff,
+            Quarantine,
+            20000,
+        ),
+        (
+            Ipv6,
+            DOCUMENTATION6 + 0x1_0000,
+            DOCUMENTATION6 + 0x1_ffff,
+            Reserved,
+            20000,
+        ),
+        (
+            Ipv6,
+            DOCUMENTATION6 + 0x2_0000,
+            DOCUMENTATION6 + 0x2_ffff,
+            Quarantine,
+            20001,
+        ),
+        (
+            Ipv6,
+            DOCUMENTATION6 + 0x3_0000,
+            DOCUMENTATION6 + 0x3_ffff,
+            Quarantine,
+            19999,
+        ),
+        (Ipv4, 0xc633_6400, 0xc633_64ff, Quarantine, 20000),
+        (Ipv4, 0xc000_0200, 0xc000_027f, Assigned, 19999),
+        (Ipv4, 0xc000_0280, 0xc000_02ff, Quarantine, 19999),
+        (Ipv4, 0xcb00_7100, 0xcb00_71ff, Quarantine, 20001),
+        (Asn, 64500, 64503, Quarantine, 20001),
+        (Asn, 64496, 64499, Quarantine, 20000),
+        (Asn, 64504, 64504, Quarantine, 19999),
+        (Asn, 64505, 64505, Available, 0),
+        (Asn, 64506, 64506, Allocated, 20000),
     ];
     let mut book = PieceBook::with_room(rt.alloc(), 13)?;
-    for (space, first, above, status, until) in rows {
-        let range = Range::new(space, first, first + above).ok_or("a range")?;
+    for (space, first, last, status, until) in rows {
+        let range = Range::new(space, first, last).ok_or("a range")?;
         let card = card_until(status, until);
         assert!(rt; laid(&mut book, &range, &card), "at {first}");
     }
