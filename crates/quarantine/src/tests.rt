@@ -1,0 +1,146 @@
+ghost use Rattle.std.specs.Prelude.{◌≡◌, IsTrue};
+ghost use Rattle.reg_entry.specs.Pieces.{IsCard, IsPoolRange};
+
+use crate::{due, due_count};
+use num_range::{Range, Space};
+use piece_book::PieceBook;
+use reg_entry::{Card, Status};
+use std::alloc::{AllocError, Global};
+use std::test::Fail;
+
+const GLOBAL_UNICAST: u128 = 0x2000_0000_0000_0000_0000_0000_0000_0000; // RFC 4291 2.4
+
+const LAST_UNICAST: u128 = 0x3fff_ffff_ffff_ffff_ffff_ffff_ffff_ffff;
+
+const DOCUMENTATION6: u128 = 0x2001_0db8_0000_0000_0000_0000_0000_0000; // RFC 3849
+
+fn is_pool_range(range: &Range) -> bool
+    ensures { IsTrue result → IsPoolRange range.now }
+{
+    range.space() != Space::Ipv6 || GLOBAL_UNICAST <= range.first() && range.last() <= LAST_UNICAST
+}
+
+fn card_until(status: Status, until: u32) -> Card
+    ensures { IsCard result }
+{
+    if status.is_available() {
+        Card::plain()
+    } else {
+        Card {
+            status,
+            holder: None,
+            day: 19000,
+            until,
+        }
+    }
+}
+
+/// Lays a card where that may be done, and says whether it was.
+fn laid(book: &mut PieceBook, range: &Range, card: &Card) -> bool
+    requires { IsCard card.now }
+{
+    if let Some(piece) = book.first_met(range) {
+        if !range.inside(&piece.range) {
+            return false;
+        }
+    }
+    if !is_pool_range(range) || book.pieces_after(range, card.status) > book.room() {
+        return false;
+    }
+    book.lay(range, card);
+    true
+}
+
+/// The first numbers and the last days of the pieces that are due, in the order in which the walk has them.
+fn walked(
+    alloc: Global,
+    book: &PieceBook,
+    day: u32,
+) -> Result<Vec<(Space, u128, u32)>, AllocError> {
+    let mut all = Vec::new(alloc);
+    for piece in due(book, day) {
+        all.push((piece.range.space(), piece.range.first(), piece.card.until))?;
+    }
+    Ok(all)
+}
+
+#[test]
+fn quarantines_that_end_by_a_day(rt: HostRuntime) -> Result<(), Fail> {
+    use Space::{Asn, Ipv4, Ipv6};
+    use Status::{Allocated, Assigned, Available, Quarantine, Reserved};
+
+    // In each space some are in quarantine up to the day before 20000, that day and the day after it; and other pieces
+    // have such days too.
+    let rows = [
+        (
+            Ipv6,
+            DOCUMENTATION6,
+            DOCUMENTATION6 + 0xffff,
+            Quarantine,
+            20000,
+        ),
+        (
+            Ipv6,
+            DOCUMENTATION6 + 0x1_0000,
+            DOCUMENTATION6 + 0x1_ffff,
+            Reserved,
+            20000,
+        ),
+        (
+            Ipv6,
+            DOCUMENTATION6 + 0x2_0000,
+            DOCUMENTATION6 + 0x2_ffff,
+            Quarantine,
+            20001,
+        ),
+        (
+            Ipv6,
+            DOCUMENTATION6 + 0x3_0000,
+            DOCUMENTATION6 + 0x3_ffff,
+            Quarantine,
+            19999,
+        ),
+        (Ipv4, 0xc633_6400, 0xc633_64ff, Quarantine, 20000),
+        (Ipv4, 0xc000_0200, 0xc000_027f, Assigned, 19999),
+        (Ipv4, 0xc000_0280, 0xc000_02ff, Quarantine, 19999),
+        (Ipv4, 0xcb00_7100, 0xcb00_71ff, Quarantine, 20001),
+        (Asn, 64500, 64503, Quarantine, 20001),
+        (Asn, 64496, 64499, Quarantine, 20000),
+        (Asn, 64504, 64504, Quarantine, 19999),
+        (Asn, 64505, 64505, Available, 0),
+        (Asn, 64506, 64506, Allocated, 20000),
+    ];
+    let mut book = PieceBook::with_room(rt.alloc(), 13)?;
+    for (space, first, last, status, until) in rows {
+        let range = Range::new(space, first, last).ok_or("a range")?;
+        let card = card_until(status, until);
+        assert!(rt; laid(&mut book, &range, &card), "at {first}");
+    }
+    assert_eq!(rt; book.pieces(), 13);
+
+    let wanted = [
+        (Asn, 64496, 20000),
+        (Asn, 64504, 19999),
+        (Ipv4, 0xc000_0280, 19999),
+        (Ipv4, 0xc633_6400, 20000),
+        (Ipv6, DOCUMENTATION6, 20000),
+        (Ipv6, DOCUMENTATION6 + 0x3_0000, 19999),
+    ];
+    assert_eq!(rt;
+        walked(rt.alloc(), &book, 20000)?.as_slice(),
+        wanted.as_slice()
+    );
+
+    for (day, count) in [
+        (0, 0),
+        (19998, 0),
+        (19999, 3),
+        (20000, 6),
+        (20001, 9),
+        (u32::MAX, 9),
+    ] {
+        assert_eq!(rt; due_count(&book, day), count, "on {day}");
+        assert_eq!(rt; walked(rt.alloc(), &book, day)?.len(), count as usize);
+    }
+    Ok(())
+}
