@@ -1,8 +1,10 @@
-//! What holds of all requests: what is written is read again.
-ghost use Rattle.std.specs.Prelude.{◌≡◌, ◌≤◌, length, Ok};
+//! What holds of all requests and entries: what is written of a request is read again, and of an entry is its own text.
+ghost use Rattle.std.specs.Prelude.{◌≡◌, ℕ, ◌≤◌, List, length, Ok};
 ghost use Rattle.reg_entry.specs.declared.request.Request.{Request};
 ghost use Rattle.desk_lang.specs.declared.line.Line.TheVariants as lines;
 ghost use Rattle.desk_lang.specs.RequestText.{request_text};
+ghost use Rattle.reg_entry.specs.Entry.{PlainEntry};
+ghost use Rattle.desk_lang.specs.EntryReading.{SpellsEntry};
 ghost use Rattle.desk_lang.specs.Writable.{IsWritable};
 ghost use Rattle.desk_lang.specs.Grammar.{line_of};
 
@@ -11,4 +13,9 @@ ghost use Rattle.desk_lang.specs.Grammar.{line_of};
 pub fn reads_written()
     ensures request { (r : Request) → IsWritable r → line_of (request_text r) ≡ Ok (lines.Request r) }
     ensures short { (r : Request) → IsWritable r → length (request_text r) ≤ 512 }
+{}
+
+/// A text is the written text of at most one entry.
+pub fn spells_one_entry()
+    ensures { (text : List ℕ) (d e : PlainEntry) → SpellsEntry text d → SpellsEntry text e → d ≡ e }
 {}
