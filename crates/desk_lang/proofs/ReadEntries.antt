@@ -319,6 +319,10 @@ length_entry e is =
 pub entry_found : (text : List ℕ) (e : PlainEntry) → SpellsEntry text e → entry_line (rest_at 1 text) ≡ Ok e
 entry_found text e h = ap (λ t. entry_line (rest_at 1 t)) h.1 ∙ entry_reads e h.0 1
 
+-- a text is the written text of one entry alone
+pub entry_once : (text : List ℕ) (d e : PlainEntry) → SpellsEntry text d → SpellsEntry text e → d ≡ e
+entry_once text d e h k = let one = entry_found text d h in let other = entry_found text e k in cc
+
 pub seq_value : (text : List ℕ) (o : Option ℕ) → IfSome o (IsDecimalUpTo (2 ^ 64 - 1) text) → IfNone o ((n : ℕ) → ¬ (IsDecimalUpTo (2 ^ 64 - 1) text n)) → o ≡ seq_of text
 seq_value text o some none =
     same_value (IsDecimalUpTo (2 ^ 64 - 1) text) (λ x y h k. decimal_injective x y (omega (arith, h.1)) (omega (arith, k.1)) (sym h.0 ∙ k.0))

@@ -240,7 +240,9 @@ fn has_decimal(seq: u64)
     let _ = seq;
 }
 
-fn is_writable_entry(e: &Entry) -> bool
+/// Whether the entry has a written text that is read again: its day is a date from 1970-01-02 on, and a card stands only
+/// beside a cover and has dates.
+pub fn is_writable_entry(e: &Entry) -> bool
     requires { IsSizedRequest e.now.request }
     ensures { IsTrue result ↔ IsWritableEntry e.now }
 {

@@ -1,8 +1,10 @@
-//! What holds of all requests and of all lines, proved as the contracts of functions that do nothing.
+//! What holds of all requests, entries and lines, proved as the contracts of functions that do nothing.
 ghost use Rattle.std.specs.Prelude.{◌≡◌, ◌≤◌, ℕ, List, length, Ok, IfOk};
 ghost use Rattle.reg_entry.specs.declared.request.Request.{Request};
 ghost use Rattle.desk_lang.specs.declared.line.Line.TheVariants as lines;
 ghost use Rattle.desk_lang.specs.RequestText.{request_text};
+ghost use Rattle.reg_entry.specs.Entry.{PlainEntry};
+ghost use Rattle.desk_lang.specs.EntryReading.{SpellsEntry};
 ghost use Rattle.desk_lang.specs.Writable.{IsWritable};
 ghost use Rattle.desk_lang.specs.Grammar.{line_of, IsValidLine};
 
@@ -17,4 +19,9 @@ pub fn reads_written()
 #[tactic(auto, using(crate::proofs::ValidLines::line_valid))]
 pub fn lines_are_valid()
     ensures { (text : List ℕ) → IfOk (line_of text) IsValidLine }
+{}
+
+/// A text is the written text of at most one entry.
+pub fn spells_one_entry()
+    ensures { (text : List ℕ) (d e : PlainEntry) → SpellsEntry text d → SpellsEntry text e → d ≡ e }
 {}

@@ -21,7 +21,7 @@ mod writable;
 #[cfg(test)]
 mod write_tests;
 
-pub use entry_line::read_entry;
+pub use entry_line::{is_writable_entry, read_entry};
 pub use entry_text::write_entry;
 pub use line::{LINE_ROOM, Line, read_line};
 pub use parted::parted_at;
