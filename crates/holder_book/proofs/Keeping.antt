@@ -1,8 +1,8 @@
 -- A book of holders keeps what it has to once a holder was added or edited.
-use Rattle.std.proofs.Common.{◌≡◌, ℕ, ◌+◌, ◌<◌, ◌≤◌, List, [], ◌∷◌, ◌++◌, None, Some, slice_set, length, sym, ◌∙◌, ap, subst, arith}
+use Rattle.std.proofs.Common.{◌≡◌, ℕ, ◌<◌, ◌≤◌, List, None, Some, slice_set, length, sym, subst, arith}
 use Rattle.std.proofs.lemmas.List.{length-map, length_push}
 use Rattle.reg_entry.specs.declared.holder.Holder.{Holder}
-use Rattle.reg_entry.specs.Holders.{has_handle, holder_number, added_holder, edited_holder}
+use Rattle.reg_entry.specs.Holders.{holder_number, added_holder, edited_holder}
 use Rattle.holder_book.specs.Index.{RisesByHandle, IsInsertedAt}
 use Rattle.holder_book.specs.Kept.{IsKept}
 use Rattle.holder_book.proofs.Places.{distinct_after_adding, distinct_after_editing, edited_in_place}

@@ -8,7 +8,7 @@ use Rattle.std.proofs.lemmas.Slice.Eq.{bytes_eq-Decides}
 use Rattle.std.proofs.lemmas.Option.{none-some}
 use Rattle.std.proofs.lemmas.Iterator.Adapters.{position_from-zero}
 use Rattle.reg_entry.specs.declared.holder.Holder.{Holder}
-use Rattle.reg_entry.specs.Holders.{has_handle, holder_number, holder_named, added_holder, edited_holder, HaveDistinctHandles}
+use Rattle.reg_entry.specs.Holders.{has_handle, holder_number, holder_named, edited_holder, HaveDistinctHandles}
 
 -- ---- the first place of a test, counted from i
 

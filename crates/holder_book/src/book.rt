@@ -51,6 +51,15 @@ impl HolderBook {
         self.holders.len() as u32
     }
 
+    /// How many holders there may be.
+    pub fn room(&self) -> u32
+        ensures room { result ≡ self.now.room }
+        ensures bound { self.now.room ≤ 2 ^ 30 }
+        ensures within { length self.now.holders ≤ self.now.room }
+    {
+        self.room
+    }
+
     /// The number of the holder with this handle, found by halving.
     pub fn by_handle(&self, handle: &Handle) -> Option<u32>
         ensures number { result ≡ holder_number self.now.holders handle.now }
@@ -62,13 +71,14 @@ impl HolderBook {
         }
     }
 
-    /// The holder with this number, and the day on which its fields were last given.
+    /// The holder with this number, with the day on which its fields were last given.
     pub fn holder(&self, number: u32) -> (Holder, u32)
         requires { number < length self.now.holders }
         ensures holder { slice_get self.now.holders number ≡ Some result }
         ensures distinct { HaveDistinctHandles self.now.holders }
     {
-        self.holders[number as usize]
+        let (holder, day) = &self.holders[number as usize];
+        (*holder, *day)
     }
 
     /// Adds a holder under the next number, and gives that.
@@ -78,8 +88,9 @@ impl HolderBook {
         ensures number { result ≡ length self.old.holders }
         ensures holders { self.new.holders ≡ added_holder self.old.holders holder.now day }
         ensures room { self.new.room ≡ self.old.room }
+        ensures distinct { HaveDistinctHandles self.new.holders }
     {
-        let number = self.holders.len() as u32;
+        let number = self.len();
         enter(&mut self.index, &holder.handle, number);
         self.holders.push_reserved((*holder, day));
         number
@@ -90,6 +101,7 @@ impl HolderBook {
         requires { holder_number self.old.holders holder.now.handle ≡ Some number }
         ensures holders { self.new.holders ≡ edited_holder self.old.holders holder.now day }
         ensures room { self.new.room ≡ self.old.room }
+        ensures distinct { HaveDistinctHandles self.new.holders }
     {
         self.holders[number as usize] = (*holder, day);
     }

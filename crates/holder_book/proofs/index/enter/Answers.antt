@@ -1,4 +1,4 @@
-use Rattle.std.proofs.Common.{◌≡◌, ◌∙◌, sym, subst, ap, rules, arith}
+use Rattle.std.proofs.Common.{subst, rules}
 use Rattle.holder_book.specs.Index.{RisesByHandle}
 use Rattle.holder_book.proofs.Indexing.{rises_after, not_absent}
 use Rattle.holder_book.proofs.index.enter.Goals as goal

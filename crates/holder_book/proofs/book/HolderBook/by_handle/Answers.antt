@@ -1,4 +1,4 @@
-use Rattle.std.proofs.Common.{◌≡◌, ◌∙◌, None, Some, sym, subst, rules}
+use Rattle.std.proofs.Common.{◌≡◌, None, Some, sym, subst, rules}
 use Rattle.reg_entry.specs.Holders.{holder_number}
 use Rattle.holder_book.proofs.Indexing.{number_found, none_found}
 use Rattle.holder_book.proofs.book.HolderBook.by_handle.Goals as goal
