@@ -1,0 +1,108 @@
+ghost use Rattle.std.specs.Prelude.{◌≡◌, ◌^◌, ◌<◌, ◌≤◌, [], None, Some, length, slice_get, IfOk};
+ghost use Rattle.reg_entry.specs.Holders.{holder_number, added_holder, edited_holder, HaveDistinctHandles};
+
+use crate::index::{enter, place};
+use reg_entry::{Handle, Holder};
+use std::alloc::{AllocError, Global};
+use std::marker::Model;
+
+/// The holders in the order of their numbers, from 0, each with the day on which its fields were last given. Making one
+/// takes memory, and nothing after that does.
+#[derive(Drop)]
+pub struct HolderBook {
+    holders: Vec<(Holder, u32)>,
+    // Their numbers in the order of their handles.
+    index: Vec<(Handle, u32)>,
+    room: u32,
+}
+
+impl Model for HolderBook {
+    ghost use Rattle.std.specs.Prelude.{vec_capacity};
+    ghost use Rattle.holder_book.specs.Book.{PlainHolderBook};
+    ghost use Rattle.holder_book.specs.Kept.{IsKept};
+
+    ghost Value = { PlainHolderBook };
+
+    ghost view = { λ b. record { holders = b.holders.items; room = b.room } };
+
+    ghost invariant = { λ b. IsKept b.holders.items b.index.items b.room (vec_capacity b.holders) (vec_capacity b.index) };
+}
+
+impl HolderBook {
+    /// A book without holders, for as many as the room says.
+    pub fn with_room(alloc: Global, room: u32) -> Result<HolderBook, AllocError>
+        requires least { 1 ≤ room }
+        requires most { room ≤ 2 ^ 30 }
+        ensures { IfOk result (λ book. book ≡ record { holders = []; room = room }) }
+    {
+        Ok(HolderBook {
+            holders: Vec::with_capacity(alloc, room as usize)?,
+            index: Vec::with_capacity(alloc, room as usize)?,
+            room,
+        })
+    }
+
+    /// How many holders there are.
+    pub fn len(&self) -> u32
+        ensures count { result ≡ length self.now.holders }
+        ensures within { length self.now.holders ≤ self.now.room }
+        ensures distinct { HaveDistinctHandles self.now.holders }
+    {
+        self.holders.len() as u32
+    }
+
+    /// How many holders there may be.
+    pub fn room(&self) -> u32
+        ensures room { result ≡ self.now.room }
+        ensures bound { self.now.room ≤ 2 ^ 30 }
+        ensures within { length self.now.holders ≤ self.now.room }
+    {
+        self.room
+    }
+
+    /// The number of the holder with this handle, found by halving.
+    pub fn by_handle(&self, handle: &Handle) -> Option<u32>
+        ensures number { result ≡ holder_number self.now.holders handle.now }
+        ensures distinct { HaveDistinctHandles self.now.holders }
+    {
+        match place(&self.index, handle) {
+            Ok(i) => Some(self.index[i].1),
+            Err(_) => None,
+        }
+    }
+
+    /// The holder with this number, with the day on which its fields were last given.
+    pub fn holder(&self, number: u32) -> (Holder, u32)
+        requires { number < length self.now.holders }
+        ensures holder { slice_get self.now.holders number ≡ Some result }
+        ensures distinct { HaveDistinctHandles self.now.holders }
+    {
+        let (holder, day) = &self.holders[number as usize];
+        (*holder, *day)
+    }
+
+    /// Adds a holder under the next number, and gives that.
+    pub fn add(&mut self, holder: &Holder, day: u32) -> u32
+        requires new { holder_number self.old.holders holder.now.handle ≡ None }
+        requires room { length self.old.holders < self.old.room }
+        ensures number { result ≡ length self.old.holders }
+        ensures holders { self.new.holders ≡ added_holder self.old.holders holder.now day }
+        ensures room { self.new.room ≡ self.old.room }
+        ensures distinct { HaveDistinctHandles self.new.holders }
+    {
+        let number = self.len();
+        enter(&mut self.index, &holder.handle, number);
+        self.holders.push_reserved((*holder, day));
+        number
+    }
+
+    /// Gives the holder of this handle, which has the number, other fields.
+    pub fn edit(&mut self, number: u32, holder: &Holder, day: u32)
+        requires { holder_number self.old.holders holder.now.handle ≡ Some number }
+        ensures holders { self.new.holders ≡ edited_holder self.old.holders holder.now day }
+        ensures room { self.new.room ≡ self.old.room }
+        ensures distinct { HaveDistinctHandles self.new.holders }
+    {
+        self.holders[number as usize] = (*holder, day);
+    }
+}

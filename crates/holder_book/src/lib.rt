@@ -1,0 +1,9 @@
+//! The register's holders: by their numbers, and by their handles without a walk over them all.
+#![tactic(auto)]
+
+mod book;
+mod index;
+#[cfg(test)]
+mod tests;
+
+pub use book::HolderBook;
