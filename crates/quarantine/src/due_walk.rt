@@ -7,7 +7,7 @@ use piece_book::PieceBook;
 use reg_entry::{Piece, Status};
 use std::marker::Model;
 
-/// The due pieces that are left, space by space, each space rising.
+/// The due pieces that are left: AS numbers, IPv4, IPv6, each space rising.
 #[derive(Drop)]
 pub struct DueWalk<'a> {
     pieces: PoolWalk<'a>,

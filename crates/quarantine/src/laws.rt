@@ -7,7 +7,8 @@ ghost use Rattle.reg_entry.specs.declared.piece.Piece.{Piece};
 ghost use Rattle.reg_entry.specs.Partition.{Partition, pieces_in};
 ghost use Rattle.quarantine.specs.Due.{due_pieces};
 
-/// The due pieces are those pieces of the pool's spaces that are in quarantine up to the day at the latest.
+/// A piece is due just where some space of the pool has it, it is in quarantine and its last day there isn't behind the
+/// given day.
 pub fn due_pieces_are_quarantined()
     ensures pooled { (pool : Partition) (day : ℕ) (p : Piece) → Contains (due_pieces pool day) p
         → (space : Space) × Contains (pieces_in pool space) p }

@@ -1,4 +1,4 @@
-//! The pieces whose quarantine ends by a day, so that they may be released.
+//! The pieces in quarantine that may be released on a day.
 #![tactic(auto)]
 
 mod due_walk;
