@@ -43,10 +43,10 @@ use Rattle.reg_laws.proofs.Painted.{IsConserved, unchanged, rearranged, painted_
 
 -- ---- cards
 
-plain_is_card : IsCard plain_card
+pub plain_is_card : IsCard plain_card
 plain_is_card e = refl
 
-delegated_is_card : (status : Delegation) (holder : Option ℕ) (day until : ℕ) → IsCard (holder_card (status_of status) holder day until)
+pub delegated_is_card : (status : Delegation) (holder : Option ℕ) (day until : ℕ) → IsCard (holder_card (status_of status) holder day until)
 delegated_is_card Allocate holder day until e = absurd (both_ways false refl e)
 delegated_is_card Assign holder day until e = absurd (both_ways false refl e)
 
@@ -57,10 +57,10 @@ not_available Quarantine e = absurd (both_ways false refl e)
 not_available Allocated e = refl
 not_available Assigned e = refl
 
-transferred_is_card : (s : Status) (holder : Option ℕ) (day until : ℕ) → is_delegated s ≡ true → IsCard (holder_card s holder day until)
+pub transferred_is_card : (s : Status) (holder : Option ℕ) (day until : ℕ) → is_delegated s ≡ true → IsCard (holder_card s holder day until)
 transferred_is_card s holder day until d e = absurd (both_ways (is_available s) (not_available s d) e)
 
-kept_is_card : (s : Status) (day until : ℕ) → is_available s ≡ false → IsCard (kept_card s day until)
+pub kept_is_card : (s : Status) (day until : ℕ) → is_available s ≡ false → IsCard (kept_card s day until)
 kept_is_card s day until n e = absurd (both_ways (is_available s) n e)
 
 -- ---- receiving
@@ -78,14 +78,14 @@ unicast_bounds range e =
           ]
     ]
 
-pool_range : (space : Space) (range : PlainRange) → least_outside_unicast space range ≡ None → space ≡ Ipv6 → (2 ^ 125 ≤ range.first) × (range.last < 2 ^ 126)
+pub pool_range : (space : Space) (range : PlainRange) → least_outside_unicast space range ≡ None → space ≡ Ipv6 → (2 ^ 125 ≤ range.first) × (range.last < 2 ^ 126)
 pool_range Asn range e is = absurd (let n : 0 ≡ 2 = ap space_rank is in omega arith)
 pool_range Ipv4 range e is = absurd (let n : 1 ≡ 2 = ap space_rank is in omega arith)
 pool_range Ipv6 range e is = unicast_bounds range e
 
 -- ---- a delegated block
 
-block_inside : (r : Register) (space : Space) (amount : ℕ) (start : Option ℕ) → IsPartition r.pool
+pub block_inside : (r : Register) (space : Space) (amount : ℕ) (start : Option ℕ) → IsPartition r.pool
     → (has_size space amount && option_map_or (is_free_block (register_pieces r space) space (amount_size space amount)) start false) ≡ true
     → (x : ℕ) × (start ≡ Some x) × IsInPiece r.pool (range_from space x (amount_size space amount))
 block_inside r space amount None h e = absurd (both_ways false refl (and_parts (has_size space amount) false e).1)

@@ -20,3 +20,8 @@ pub mod DistinctKeys
 pub mod Boards
 pub mod Narrowing
 pub mod RisingKeys
+pub mod Reaching
+pub mod Paints
+pub mod Shares
+pub mod HoldingFacts
+pub mod Knowing

@@ -151,7 +151,7 @@ piece_is_of space (q ∷ qs) x p each e =
     ]
 
 -- the piece that holds a range's first number, and its last, is the first that meets the range
-met_first : (low : ℕ) (ps : List Piece) (r : PlainRange) (p : Piece) → RisesFrom low ps → piece_at ps r.first ≡ Some p → r.first ≤ r.last
+pub met_first : (low : ℕ) (ps : List Piece) (r : PlainRange) (p : Piece) → RisesFrom low ps → piece_at ps r.first ≡ Some p → r.first ≤ r.last
     → first_met ps r ≡ Some p
 met_first low [] r p rises e order = absurd (none-some p e)
 met_first low (q ∷ qs) r p rises e order =

@@ -46,7 +46,7 @@ split_first p ps at rises t =
 split_rest : (p : Piece) (ps : List Piece) (at : ℕ) → holds_past_first p at ≡ false → split_at_number (p ∷ ps) at ≡ p ∷ split_at_number ps at
 split_rest p ps at f = ap (λ xs. xs ++ split_at_number ps at) (cond-false (holds_past_first p at) (left_part p at ∷ right_part p at ∷ []) (p ∷ []) f)
 
-past_first : (p : Piece) (at : ℕ) → holds_past_first p at ≡ true → (p.range.first < at) × (at ≤ p.range.last)
+pub past_first : (p : Piece) (at : ℕ) → holds_past_first p at ≡ true → (p.range.first < at) × (at ≤ p.range.last)
 past_first p at t =
     let inside = and_parts (nat_lt p.range.first at) (nat_le at p.range.last) t in
     (ltb-true p.range.first at inside.0, leb-true at p.range.last inside.1)

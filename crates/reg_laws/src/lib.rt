@@ -3,8 +3,12 @@
 
 pub mod board;
 pub mod conservation;
+pub mod holders;
+pub mod holdings;
 pub mod narrowest;
 pub mod next;
 pub mod objects;
+pub mod painting;
 pub mod pieces;
+pub mod reached;
 pub mod whole;
