@@ -1,0 +1,8 @@
+//! How many numbers of each space each holder holds, kept so that no request has to walk over all pieces.
+#![tactic(auto)]
+
+mod book;
+#[cfg(test)]
+mod tests;
+
+pub use book::HoldingBook;
