@@ -1,0 +1,7 @@
+pub mod Blocks
+pub mod Found
+pub mod Missing
+pub mod Known
+pub mod Splitting
+pub mod FreeBlocks
+pub mod Steps

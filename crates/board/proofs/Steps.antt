@@ -1,0 +1,302 @@
+-- What the next entry asks of the board's books, and that the board is kept by it.
+use Rattle.std.proofs.Common.{◌≡◌, ℕ, suc, ◌+◌, ◌-◌, ◌<◌, ◌≤◌, ◌^◌, ◌==◌, cond, true, false, List, [], ◌∷◌, length, map, Option, None, Some, MatchOption, refl, sym, ◌∙◌, ap, subst, arith, length-append}
+use Rattle.std.proofs.lemmas.Bool.{both_ways}
+use Rattle.num_range.specs.declared.space.Space.{Space}
+use Rattle.num_range.specs.Number.{PlainNumber}
+use Rattle.num_range.specs.Range.{PlainRange}
+use Rattle.reg_entry.specs.declared.card.Card.{Card}
+use Rattle.reg_entry.specs.declared.card.Status.{Status}
+use Rattle.reg_entry.specs.declared.card.Status.TheVariants.{Available, Reserved, Quarantine, Allocated, Assigned}
+use Rattle.reg_entry.specs.declared.holder.Holder.{Holder}
+use Rattle.reg_entry.specs.declared.piece.Piece.{Piece}
+use Rattle.reg_entry.specs.declared.request.Request.{Request}
+use Rattle.reg_entry.specs.declared.request.Request.TheVariants.{Receive, AddHolder, EditHolder, Delegate, Reserve, Unreserve, SubAssign, SubReturn, Return, Release, Split, Join, Transfer, SetReverse, ClearReverse}
+use Rattle.reg_entry.specs.declared.rooms.Rooms.{Rooms}
+use Rattle.reg_entry.specs.declared.sub_card.SubCard.{SubCard}
+use Rattle.reg_entry.specs.Card.{is_available, is_delegated}
+use Rattle.reg_entry.specs.Covers.{card_for, first_number}
+use Rattle.reg_entry.specs.Entry.{PlainEntry}
+use Rattle.reg_entry.specs.Next.{IsNextEntry, until_of}
+use Rattle.reg_entry.specs.Partition.{Partition, pieces_in, with_pieces, piece_count}
+use Rattle.reg_entry.specs.Pieces.{piece_at, laid}
+use Rattle.reg_entry.specs.Register.{Register, piece_of, card_of, reshaped, painted, pool_after, holders_after, subs_after, reverses_after, after_entry}
+use Rattle.reg_entry.specs.Reshaping.{split_at_number}
+use Rattle.reg_entry.specs.Sums.{held, allocated}
+use Rattle.reg_entry.specs.Whole.{IsWholeRegister}
+use Rattle.piece_book.specs.Book.{PlainBook}
+use Rattle.piece_book.specs.Cutting.{IsSplitPlace, IsJoinPlace}
+use Rattle.holder_book.specs.Book.{PlainHolderBook}
+use Rattle.holding_book.specs.Book.{PlainHoldingBook, held_in, allocated_in}
+use Rattle.reg_laws.specs.Holdings.{held_by, held_by_card, allocated_by, allocated_by_card}
+use Rattle.reg_laws.specs.Reached.{IsReached}
+use Rattle.reg_laws.specs.Reshaping.{CanJoinAt}
+use Rattle.board.specs.declared.board.Board.TheInside.{Inside as BoardInside}
+use Rattle.reg_entry.specs.declared.entry.Entry.TheInside.{Inside as EntryInside}
+use Rattle.board.specs.Kinds.{is_of_pieces_or_holders}
+use Rattle.board.specs.Kept.{register_of, AreHoldingsIn, IsKeptIn}
+use Rattle.board.proofs.Splitting.{split_adds}
+
+-- the register and the entry of the fields
+abbrev pub register_in : BoardInside → Register
+register_in b = register_of b.rooms b.entries b.first_day b.last_day b.pieces b.holders
+
+abbrev pub entry_in : EntryInside → PlainEntry
+entry_in e = record { seq = e.seq; day = e.day; who = e.who; request = e.request; cover = e.cover; card = e.card }
+
+pub next_at : (r s : Register) (e d : PlainEntry) → r ≡ s → e ≡ d → IsNextEntry s d → IsNextEntry r e
+next_at r s e d same one next =
+    subst (λ (x : Register). IsNextEntry x e) (sym same) (subst (λ (y : PlainEntry). IsNextEntry s y) (sym one) next)
+
+-- ---- the parts of the register after the entry
+
+no_subs : (request : Request) (day : ℕ) (hs : List (Holder × ℕ)) → is_of_pieces_or_holders request ≡ true → subs_after request day hs [] ≡ []
+no_subs (Receive range) day hs e = refl
+no_subs (AddHolder holder) day hs e = refl
+no_subs (EditHolder holder) day hs e = refl
+no_subs (Delegate space amount status handle) day hs e = refl
+no_subs (Reserve range) day hs e = refl
+no_subs (Unreserve range) day hs e = refl
+no_subs (SubAssign range handle) day hs e = absurd (both_ways false refl e)
+no_subs (SubReturn range) day hs e = refl
+no_subs (Return range handle) day hs e = refl
+no_subs (Release range) day hs e = refl
+no_subs (Split at) day hs e = refl
+no_subs (Join at) day hs e = refl
+no_subs (Transfer range from to) day hs e = refl
+no_subs (SetReverse range servers) day hs e = refl
+no_subs (ClearReverse range) day hs e = refl
+
+no_reverses : (request : Request) → is_of_pieces_or_holders request ≡ true → reverses_after request [] ≡ []
+no_reverses (Receive range) e = refl
+no_reverses (AddHolder holder) e = refl
+no_reverses (EditHolder holder) e = refl
+no_reverses (Delegate space amount status handle) e = refl
+no_reverses (Reserve range) e = refl
+no_reverses (Unreserve range) e = refl
+no_reverses (SubAssign range handle) e = refl
+no_reverses (SubReturn range) e = refl
+no_reverses (Return range handle) e = refl
+no_reverses (Release range) e = refl
+no_reverses (Split at) e = refl
+no_reverses (Join at) e = refl
+no_reverses (Transfer range from to) e = refl
+no_reverses (SetReverse range servers) e = absurd (both_ways false refl e)
+no_reverses (ClearReverse range) e = refl
+
+-- a request that adds and edits no holder leaves the holders
+pub same_holders : (request : Request) (day : ℕ) (hs : List (Holder × ℕ)) → ((holder : Holder) → request ≡ AddHolder holder → ⊥)
+    → ((holder : Holder) → request ≡ EditHolder holder → ⊥) → hs ≡ holders_after request day hs
+same_holders (Receive range) day hs a b = refl
+same_holders (AddHolder holder) day hs a b = absurd (a holder refl)
+same_holders (EditHolder holder) day hs a b = absurd (b holder refl)
+same_holders (Delegate space amount status handle) day hs a b = refl
+same_holders (Reserve range) day hs a b = refl
+same_holders (Unreserve range) day hs a b = refl
+same_holders (SubAssign range handle) day hs a b = refl
+same_holders (SubReturn range) day hs a b = refl
+same_holders (Return range handle) day hs a b = refl
+same_holders (Release range) day hs a b = refl
+same_holders (Split at) day hs a b = refl
+same_holders (Join at) day hs a b = refl
+same_holders (Transfer range from to) day hs a b = refl
+same_holders (SetReverse range servers) day hs a b = refl
+same_holders (ClearReverse range) day hs a b = refl
+
+-- a request that neither splits nor joins leaves the pieces to what is painted
+pub unshaped : (request : Request) (pool : Partition) → ((at : PlainNumber) → request ≡ Split at → ⊥)
+    → ((at : PlainNumber) → request ≡ Join at → ⊥) → reshaped request pool ≡ pool
+unshaped (Receive range) pool a b = refl
+unshaped (AddHolder holder) pool a b = refl
+unshaped (EditHolder holder) pool a b = refl
+unshaped (Delegate space amount status handle) pool a b = refl
+unshaped (Reserve range) pool a b = refl
+unshaped (Unreserve range) pool a b = refl
+unshaped (SubAssign range handle) pool a b = refl
+unshaped (SubReturn range) pool a b = refl
+unshaped (Return range handle) pool a b = refl
+unshaped (Release range) pool a b = refl
+unshaped (Split at) pool a b = absurd (a at refl)
+unshaped (Join at) pool a b = absurd (b at refl)
+unshaped (Transfer range from to) pool a b = refl
+unshaped (SetReverse range servers) pool a b = refl
+unshaped (ClearReverse range) pool a b = refl
+
+unpainted : (cover : Option PlainRange) (pool : Partition) → painted cover None pool ≡ pool
+unpainted None pool = refl
+unpainted (Some range) pool = refl
+
+-- an entry without a card only reshapes
+pub pool_unpainted : (request : Request) (cover : Option PlainRange) (card : Option Card) (pool : Partition) → card ≡ None
+    → pool_after request cover card pool ≡ reshaped request pool
+pool_unpainted request cover card pool e =
+    ap (λ (c : Option Card). painted cover c (reshaped request pool)) e ∙ unpainted cover (reshaped request pool)
+
+-- an entry that paints and doesn't reshape
+pub pool_painted : (request : Request) (cover : Option PlainRange) (card : Option Card) (pool : Partition) (range : PlainRange) (c : Card)
+    → cover ≡ Some range → card ≡ Some c → reshaped request pool ≡ pool
+    → pool_after request cover card pool ≡ with_pieces pool range.space (laid (pieces_in pool range.space) range c)
+pool_painted request cover card pool range c e f alone =
+    ap (λ (x : Option PlainRange). painted x card (reshaped request pool)) e
+    ∙ ap (λ (y : Option Card). painted (Some range) y (reshaped request pool)) f
+    ∙ ap (λ (p : Partition). painted (Some range) (Some c) p) alone
+
+-- ---- the register after the entry
+
+abbrev with_parts : Rooms → ℕ → ℕ → ℕ → Partition → List (Holder × ℕ) → List (PlainRange × SubCard) → List (PlainRange × List (List ℕ)) → Register
+with_parts rooms entries first last pool holders subs reverses = record {
+  rooms = rooms;
+  entries = entries;
+  first_day = first;
+  last_day = last;
+  pool = pool;
+  holders = holders;
+  subs = subs;
+  reverses = reverses;
+}
+
+pub register_is : (rooms : Rooms) (entries first last : ℕ) (ps qs : PlainBook) (hs ks : PlainHolderBook) (e : PlainEntry) (day : ℕ)
+    → is_of_pieces_or_holders e.request ≡ true → day ≡ cond (entries == 0) e.day first
+    → qs.partition ≡ pool_after e.request e.cover e.card ps.partition → ks.holders ≡ holders_after e.request e.day hs.holders
+    → register_of rooms (entries + 1) day e.day qs ks ≡ after_entry (register_of rooms entries first last ps hs) e
+register_is rooms entries first last ps qs hs ks e day kind f p h =
+    ap (λ (d : ℕ). with_parts rooms (entries + 1) d e.day qs.partition ks.holders [] []) f
+    ∙ ap (λ (x : Partition). with_parts rooms (entries + 1) (cond (entries == 0) e.day first) e.day x ks.holders [] []) p
+    ∙ ap (λ (x : List (Holder × ℕ)). with_parts rooms (entries + 1) (cond (entries == 0) e.day first) e.day
+    (pool_after e.request e.cover e.card ps.partition) x [] []) h
+    ∙ ap (λ (x : List (PlainRange × SubCard)). with_parts rooms (entries + 1) (cond (entries == 0) e.day first) e.day
+    (pool_after e.request e.cover e.card ps.partition) (holders_after e.request e.day hs.holders) x []) (sym (no_subs e.request e.day hs.holders kind))
+    ∙ ap (λ (x : List (PlainRange × List (List ℕ))). with_parts rooms (entries + 1) (cond (entries == 0) e.day first) e.day
+    (pool_after e.request e.cover e.card ps.partition) (holders_after e.request e.day hs.holders) (subs_after e.request e.day hs.holders []) x)
+    (sym (no_reverses e.request kind))
+
+pub kept_by : (rooms : Rooms) (entries first last : ℕ) (ps qs : PlainBook) (hs ks : PlainHolderBook) (e : PlainEntry) (day : ℕ)
+    (book more : PlainHoldingBook) → IsKeptIn (register_of rooms entries first last ps hs) ps.room hs.room book
+    → IsReached (after_entry (register_of rooms entries first last ps hs) e)
+    → is_of_pieces_or_holders e.request ≡ true → day ≡ cond (entries == 0) e.day first
+    → qs.partition ≡ pool_after e.request e.cover e.card ps.partition → qs.room ≡ ps.room
+    → ks.holders ≡ holders_after e.request e.day hs.holders → ks.room ≡ hs.room
+    → AreHoldingsIn (after_entry (register_of rooms entries first last ps hs) e) more → more.room ≡ book.room
+    → IsKeptIn (register_of rooms (entries + 1) day e.day qs ks) qs.room ks.room more
+kept_by rooms entries first last ps qs hs ks e day book more kept reached kind f p pr h hr holdings mr =
+    subst (λ (x : Register). IsKeptIn x qs.room ks.room more) (sym (register_is rooms entries first last ps qs hs ks e day kind f p h))
+    (record {
+      reached = reached;
+      rooms = kept.rooms;
+      pieces = pr ∙ kept.pieces;
+      holders = hr ∙ kept.holders;
+      holding_room = mr ∙ kept.holding_room;
+      holdings = holdings;
+    })
+
+-- ---- the holdings
+
+pub unchanged_holdings : (r : Register) (e : PlainEntry) (book more : PlainHoldingBook) → AreHoldingsIn r book
+    → ((holder : ℕ) (space : Space) → held (after_entry r e) holder space ≡ held r holder space)
+    → ((holder : ℕ) (space : Space) → allocated (after_entry r e) holder space ≡ allocated r holder space)
+    → length more.holdings ≡ length (after_entry r e).holders
+    → ((holder : ℕ) (space : Space) → held_in more holder space ≡ held_in book holder space)
+    → ((holder : ℕ) (space : Space) → allocated_in more holder space ≡ allocated_in book holder space)
+    → AreHoldingsIn (after_entry r e) more
+unchanged_holdings r e book more h same_held same_allocated count to_held to_allocated = record {
+  count = count;
+  held = λ holder space. to_held holder space ∙ h.held holder space ∙ sym (same_held holder space);
+  allocated = λ holder space. to_allocated holder space ∙ h.allocated holder space ∙ sym (same_allocated holder space);
+}
+
+taken_and_given : (after was former given there here : ℕ) → after + former ≡ was + given → here + former ≡ there + given → there ≡ was → here ≡ after
+taken_and_given after was former given there here e f g = omega arith
+
+pub exchanged_holdings : (r : Register) (e : PlainEntry) (book more : PlainHoldingBook) (range : PlainRange) (former : Option Card) (c : Card)
+    → AreHoldingsIn r book → former ≡ card_of r.pool (first_number range)
+    → ((holder : ℕ) (space : Space) → held (after_entry r e) holder space + held_by holder space range (card_of r.pool (first_number range))
+    ≡ held r holder space + held_by_card holder space range c)
+    → ((holder : ℕ) (space : Space) → allocated (after_entry r e) holder space + allocated_by holder space range (card_of r.pool (first_number range))
+    ≡ allocated r holder space + allocated_by_card holder space range c)
+    → length more.holdings ≡ length (after_entry r e).holders
+    → ((holder : ℕ) (space : Space) → held_in more holder space + held_by holder space range former ≡ held_in book holder space + held_by_card holder space range c)
+    → ((holder : ℕ) (space : Space) → allocated_in more holder space + allocated_by holder space range former
+    ≡ allocated_in book holder space + allocated_by_card holder space range c)
+    → AreHoldingsIn (after_entry r e) more
+exchanged_holdings r e book more range former c h is held_law allocated_law count to_held to_allocated = record {
+  count = count;
+  held = λ holder space.
+      taken_and_given (held (after_entry r e) holder space) (held r holder space) (held_by holder space range former) (held_by_card holder space range c)
+      (held_in book holder space) (held_in more holder space)
+      (ap (λ (x : Option Card). held (after_entry r e) holder space + held_by holder space range x) is ∙ held_law holder space)
+      (to_held holder space) (h.held holder space);
+  allocated = λ holder space.
+      taken_and_given (allocated (after_entry r e) holder space) (allocated r holder space) (allocated_by holder space range former)
+      (allocated_by_card holder space range c) (allocated_in book holder space) (allocated_in more holder space)
+      (ap (λ (x : Option Card). allocated (after_entry r e) holder space + allocated_by holder space range x) is ∙ allocated_law holder space)
+      (to_allocated holder space) (h.allocated holder space);
+}
+
+pub fits_in : (after was former given there : ℕ) → after + former ≡ was + given → former ≤ was → there ≡ was → was < 2 ^ 127 → after < 2 ^ 127
+    → there + given < 2 ^ 128
+fits_in after was former given there e f g h k = omega arith
+
+pub added_count : (request : Request) (day : ℕ) (hs : List (Holder × ℕ)) (holder : Holder) (n m : ℕ) → request ≡ AddHolder holder → n ≡ m + 1
+    → m ≡ length hs → n ≡ length (holders_after request day hs)
+added_count request day hs holder n m is e f =
+    e ∙ ap (λ (k : ℕ). k + 1) f ∙ sym (length-append hs ((holder, day) ∷ []))
+    ∙ ap (λ (q : Request). length (holders_after q day hs)) (sym is)
+
+length_map : (f : Holder × ℕ → Holder × ℕ) (hs : List (Holder × ℕ)) → length (map f hs) ≡ length hs
+length_map f [] = refl
+length_map f (h ∷ hs) = ap (λ (n : ℕ). suc n) (length_map f hs)
+
+pub edited_count : (request : Request) (day : ℕ) (hs : List (Holder × ℕ)) (holder : Holder) (n : ℕ) → request ≡ EditHolder holder
+    → n ≡ length hs → n ≡ length (holders_after request day hs)
+edited_count request day hs holder n is e =
+    e ∙ sym (length_map _ hs) ∙ ap (λ (q : Request). length (holders_after q day hs)) (sym is)
+
+-- ---- what is asked of the pieces
+
+not_available : (s : Status) → is_delegated s ≡ true → is_available s ≡ false
+not_available Available e = absurd (both_ways false refl e)
+not_available Reserved e = refl
+not_available Quarantine e = refl
+not_available Allocated e = refl
+not_available Assigned e = refl
+
+pub split_place : (pool : Partition) (at : PlainNumber)
+    → (p : Piece) × (piece_of pool at ≡ Some p) × (is_delegated p.card.status ≡ true) × (p.range.first < at.value)
+    → IsSplitPlace (pieces_in pool at.space) at.value
+split_place pool at (p, e, d, lt) =
+    subst (λ (o : Option Piece). MatchOption o ⊥ (λ p. (is_available p.card.status ≡ false) × (p.range.first < at.value))) (sym e)
+    (not_available p.card.status d, lt)
+
+pub split_room : (r : Register) (e : PlainEntry) (at : PlainNumber) (room : ℕ) → IsWholeRegister r → IsWholeRegister (after_entry r e)
+    → e.request ≡ Split at → e.card ≡ None → room ≡ r.rooms.pieces
+    → (p : Piece) × (piece_of r.pool at ≡ Some p) × (is_delegated p.card.status ≡ true) × (p.range.first < at.value)
+    → piece_count r.pool < room
+split_room r e at room whole after is bare same (p, found, d, lt) =
+    let adds = split_adds r.pool at p whole.pieces found lt in
+    let now : (after_entry r e).pool ≡ with_pieces r.pool at.space (split_at_number (pieces_in r.pool at.space) at.value) =
+    pool_unpainted e.request e.cover e.card r.pool bare ∙ ap (λ (q : Request). reshaped q r.pool) is in
+    let within : piece_count (after_entry r e).pool ≤ r.rooms.pieces = after.rooms.pieces in
+    let count : piece_count (after_entry r e).pool ≡ piece_count r.pool + 1 = ap piece_count now ∙ adds in
+    below (piece_count r.pool) (piece_count (after_entry r e).pool) r.rooms.pieces room count within same
+  where
+    below : (n m k room : ℕ) → m ≡ n + 1 → m ≤ k → room ≡ k → n < room
+    below n m k room e f g = omega arith
+
+pub join_place : (ps : List Piece) (at : ℕ) → CanJoinAt ps at → IsJoinPlace ps at
+join_place ps at h = (
+  h.positive,
+  subst (λ (o : Option Piece). MatchOption o ⊥ (λ q. (is_available q.card.status ≡ false) × (q.range.first ≡ at)
+      × MatchOption (piece_at ps (at - 1)) ⊥ (λ p. p.card ≡ q.card))) (sym h.holds_at)
+      (h.fixed, h.begins, subst (λ (o : Option Piece). MatchOption o ⊥ (λ p. p.card ≡ h.right.card)) (sym h.holds_before) h.one_card),
+)
+
+pub paint_room : (r : Register) (e : PlainEntry) (range : PlainRange) (c : Card) (room : ℕ) → IsWholeRegister (after_entry r e)
+    → e.cover ≡ Some range → e.card ≡ Some c → reshaped e.request r.pool ≡ r.pool → room ≡ r.rooms.pieces
+    → piece_count (with_pieces r.pool range.space (laid (pieces_in r.pool range.space) range c)) ≤ room
+paint_room r e range c room after cover card alone same =
+    subst (λ (n : ℕ). piece_count (with_pieces r.pool range.space (laid (pieces_in r.pool range.space) range c)) ≤ n) (sym same)
+    (subst (λ (p : Partition). piece_count p ≤ r.rooms.pieces) (pool_painted e.request e.cover e.card r.pool range c cover card alone) after.rooms.pieces)
+
+-- a request whose card is none paints none
+pub bare_card : (r : Register) (e : PlainEntry) (request : Request) → e.card ≡ card_for r e.request e.day (until_of e.card) → e.request ≡ request
+    → card_for r request e.day (until_of e.card) ≡ None → e.card ≡ None
+bare_card r e request card is none = card ∙ ap (λ (q : Request). card_for r q e.day (until_of e.card)) is ∙ none
