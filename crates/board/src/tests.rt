@@ -84,33 +84,68 @@ fn taken(
     Some(true)
 }
 
-/// A range with its holders: received, and ORG-A and ORG-B added.
+/// A network that is received, and two holders.
 fn begun(board: &mut Board) -> Option<bool> {
-    let all = range(0, 255)?;
-    let received = taken(
+    let request = Request::Receive {
+        range: range(0, 255)?,
+    };
+    let received = taken(board, DAY, &request, range(0, 255), Some(Card::plain()))?;
+    let first = added(board, b"ORG-A", b"Alpha Net")?;
+    let second = added(board, b"ORG-B", b"Beta Net")?;
+    Some(received && first && second)
+}
+
+/// Keeps a range back, or no longer.
+fn reserved(board: &mut Board, first: u128, last: u128) -> Option<bool> {
+    let request = Request::Reserve {
+        range: range(first, last)?,
+    };
+    taken(
         board,
         DAY,
-        &Request::Receive { range: all },
-        Some(all),
+        &request,
+        range(first, last),
+        card(Status::Reserved, None, DAY, 0),
+    )
+}
+
+fn unreserved(board: &mut Board, first: u128, last: u128) -> Option<bool> {
+    let request = Request::Unreserve {
+        range: range(first, last)?,
+    };
+    taken(
+        board,
+        DAY,
+        &request,
+        range(first, last),
         Some(Card::plain()),
-    )?;
-    let first = holder(b"ORG-A", b"Alpha Net")?;
-    let second = holder(b"ORG-B", b"Beta Net")?;
-    let added = taken(
-        board,
-        DAY,
-        &Request::AddHolder { holder: first },
-        None,
-        None,
-    )?;
-    let more = taken(
-        board,
-        DAY,
-        &Request::AddHolder { holder: second },
-        None,
-        None,
-    )?;
-    Some(received && added && more)
+    )
+}
+
+/// Adds a holder, or gives the one of this handle another name.
+fn added(board: &mut Board, handle: &[u8], name: &[u8]) -> Option<bool> {
+    let request = Request::AddHolder {
+        holder: holder(handle, name)?,
+    };
+    taken(board, DAY, &request, None, None)
+}
+
+fn edited(board: &mut Board, handle: &[u8], name: &[u8]) -> Option<bool> {
+    let request = Request::EditHolder {
+        holder: holder(handle, name)?,
+    };
+    taken(board, DAY, &request, None, None)
+}
+
+/// Splits the half of the network before the octet, or joins its two pieces there.
+fn split(board: &mut Board, at: u128) -> Option<bool> {
+    let request = Request::Split { at: number(at)? };
+    taken(board, DAY, &request, range(0, 127), None)
+}
+
+fn joined(board: &mut Board, at: u128) -> Option<bool> {
+    let request = Request::Join { at: number(at)? };
+    taken(board, DAY, &request, range(0, 127), None)
 }
 
 /// Delegates a block to ORG-A, from the octet on.
@@ -198,18 +233,7 @@ fn blocks_are_taken_returned_and_released(rt: HostRuntime) -> Result<(), Fail> {
     assert_eq!(rt; delegated(&mut board, DAY, 26, 0, 63), Some(true));
 
     // One address is kept back, so that no aligned block is free from it on but the upper half.
-    let one = range(64, 64).ok_or("a range")?;
-    let reserve = Request::Reserve { range: one };
-    assert_eq!(rt;
-        taken(
-            &mut board,
-            DAY,
-            &reserve,
-            Some(one),
-            card(Status::Reserved, None, DAY, 0)
-        ),
-        Some(true)
-    );
+    assert_eq!(rt; reserved(&mut board, 64, 64), Some(true));
     for (first, last, is_taken) in [
         (64, 127, false),
         (65, 128, false),
@@ -259,24 +283,9 @@ fn pieces_are_joined_split_and_transferred(rt: HostRuntime) -> Result<(), Fail> 
     assert_eq!(rt; begun(&mut board), Some(true));
 
     // What is released joins what is available on either side.
-    let low = range(0, 63).ok_or("a range")?;
-    let reserve = Request::Reserve { range: low };
-    assert_eq!(rt;
-        taken(
-            &mut board,
-            DAY,
-            &reserve,
-            Some(low),
-            card(Status::Reserved, None, DAY, 0)
-        ),
-        Some(true)
-    );
+    assert_eq!(rt; reserved(&mut board, 0, 63), Some(true));
     assert_eq!(rt; delegated(&mut board, DAY, 26, 64, 127), Some(true));
-    let unreserve = Request::Unreserve { range: low };
-    assert_eq!(rt;
-        taken(&mut board, DAY, &unreserve, Some(low), Some(Card::plain())),
-        Some(true)
-    );
+    assert_eq!(rt; unreserved(&mut board, 0, 63), Some(true));
     assert_eq!(rt; returned(&mut board, 64, 127, DAY), Some(true));
     assert_eq!(rt; released(&mut board, DAY, 64, 127), Some(true));
     assert!(rt; stands(&board, 64, 0, 255, Status::Available));
@@ -284,30 +293,16 @@ fn pieces_are_joined_split_and_transferred(rt: HostRuntime) -> Result<(), Fail> 
 
     // A split and a join leave each card as it is.
     assert_eq!(rt; delegated(&mut board, DAY, 25, 0, 127), Some(true));
-    let at = number(64).ok_or("a number")?;
-    let all = range(0, 127);
-    assert_eq!(rt;
-        taken(&mut board, DAY, &Request::Join { at }, all, None),
-        Some(false)
-    );
-    assert_eq!(rt;
-        taken(&mut board, DAY, &Request::Split { at }, all, None),
-        Some(true)
-    );
+    assert_eq!(rt; joined(&mut board, 64), Some(false));
+    assert_eq!(rt; split(&mut board, 64), Some(true));
     assert!(rt; stands(&board, 63, 0, 63, Status::Allocated));
     assert!(rt; stands(&board, 64, 64, 127, Status::Allocated));
-    assert_eq!(rt;
-        taken(&mut board, DAY, &Request::Join { at }, all, None),
-        Some(true)
-    );
+    assert_eq!(rt; joined(&mut board, 64), Some(true));
     assert!(rt; stands(&board, 64, 0, 127, Status::Allocated));
     assert_eq!(rt; board.held(0, Space::Ipv4), 128);
 
     // A transferred piece is its new holder's, and stays so for the time that the entry says.
-    assert_eq!(rt;
-        taken(&mut board, DAY, &Request::Split { at }, all, None),
-        Some(true)
-    );
+    assert_eq!(rt; split(&mut board, 64), Some(true));
     assert_eq!(rt;
         transferred(&mut board, DAY, b"ORG-B", b"ORG-A", 0, HELD),
         Some(false)
@@ -345,51 +340,14 @@ fn rooms_are_kept(rt: HostRuntime) -> Result<(), Fail> {
     };
     let mut board = Board::with_room(rt.alloc(), rooms)?;
     assert_eq!(rt; begun(&mut board), Some(true));
-    let third = holder(b"ORG-C", b"Gamma Net").ok_or("a holder")?;
-    assert_eq!(rt;
-        taken(
-            &mut board,
-            DAY,
-            &Request::AddHolder { holder: third },
-            None,
-            None
-        ),
-        Some(false)
-    );
+    assert_eq!(rt; added(&mut board, b"ORG-C", b"Gamma Net"), Some(false));
 
     // The edit of a holder needs no room, and keeps the number.
-    let other = holder(b"ORG-A", b"Alpha").ok_or("a holder")?;
-    assert_eq!(rt;
-        taken(
-            &mut board,
-            DAY,
-            &Request::EditHolder { holder: third },
-            None,
-            None
-        ),
-        Some(false)
-    );
-    assert_eq!(rt;
-        taken(
-            &mut board,
-            DAY,
-            &Request::AddHolder { holder: other },
-            None,
-            None
-        ),
-        Some(false)
-    );
-    assert_eq!(rt;
-        taken(
-            &mut board,
-            DAY,
-            &Request::EditHolder { holder: other },
-            None,
-            None
-        ),
-        Some(true)
-    );
-    assert_eq!(rt; board.holders().by_handle(&other.handle), Some(0));
+    assert_eq!(rt; edited(&mut board, b"ORG-C", b"Gamma Net"), Some(false));
+    assert_eq!(rt; added(&mut board, b"ORG-A", b"Alpha"), Some(false));
+    assert_eq!(rt; edited(&mut board, b"ORG-A", b"Alpha"), Some(true));
+    let handle = Handle::read(b"ORG-A").ok_or("a handle")?;
+    assert_eq!(rt; board.holders().by_handle(&handle), Some(0));
 
     // A third piece has no room, and the other half as a whole needs none.
     assert_eq!(rt; delegated(&mut board, DAY, 25, 0, 127), Some(true));
