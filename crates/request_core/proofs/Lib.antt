@@ -1,0 +1,7 @@
+pub mod FoundBlock
+pub mod Hundredths
+pub mod Named
+pub mod PieceSizes
+pub mod PolicyRows
+pub mod Refusals
+pub mod Rounding

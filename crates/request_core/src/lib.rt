@@ -1,0 +1,11 @@
+//! The decision on a request: a refusal, or the entry that it becomes.
+#![tactic(auto)]
+
+mod decision;
+mod least_block;
+mod policy_rules;
+mod proposal;
+#[cfg(test)]
+mod tests;
+
+pub use decision::decide;

@@ -1,0 +1,204 @@
+//! Whether the policy allows a request.
+ghost use Rattle.std.specs.Prelude.{◌≡◌, ◌≤◌, ◌-◌, ◌*◌, ◌/◌, ◌^◌, min, true, IfNone, IfSome};
+ghost use Rattle.num_range.specs.Range.{size_of};
+ghost use Rattle.reg_entry.specs.Covers.{first_number};
+ghost use Rattle.reg_entry.specs.Holders.{holder_named};
+ghost use Rattle.reg_entry.specs.Policy.{PlainRows, row_in, policy_row, lists_kind, IsRowOf};
+ghost use Rattle.reg_entry.specs.Register.{piece_of};
+ghost use Rattle.reg_entry.specs.Request.{has_size, status_of};
+ghost use Rattle.reg_entry.specs.Decision.{first_of, on_piece, refuse_if, amount_out_of_policy, kind_left_out, over_cap, under_used, delegate_rules, transferred_size, transfer_rules, policy_rules};
+ghost use Rattle.request_core.specs.Sized.{IsSizedRequest};
+
+use board::{Board, amount_size};
+use num_range::{Number, Range, Space};
+use policy_table::Policy;
+use reg_entry::{Delegation, Handle, Holder, Kind, Piece, Refusal, Request, Row, Status};
+use reg_laws::holdings::holdings_are_bounded;
+
+/// The refusal, where the condition holds.
+fn refuse_if(condition: bool, refusal: Refusal) -> Option<Refusal>
+    ensures { result ≡ refuse_if condition refusal }
+{
+    if condition { Some(refusal) } else { None }
+}
+
+fn amount_out_of_policy(row: &Row, amount: u32) -> Option<Refusal>
+    ensures refusal { result ≡ amount_out_of_policy row.now amount }
+    ensures within { IfNone result ((row.now.least ≤ amount) × (amount ≤ row.now.most)) }
+{
+    let (least, most) = (row.least, row.most);
+    refuse_if(
+        amount < least || most < amount,
+        Refusal::LengthOutOfPolicy { least, most },
+    )
+}
+
+/// Whether the row lists holders of this kind.
+fn lists_kind(row: &Row, kind: Kind) -> bool
+    ensures { result ≡ lists_kind row.now kind }
+{
+    match kind {
+        Kind::Lir => row.lir,
+        Kind::EndUser => row.enduser,
+    }
+}
+
+/// The holder with this handle.
+#[tactic(auto, using(crate::proofs::Named::number_within, crate::proofs::Named::holder_found, crate::proofs::Named::no_holder))]
+fn holder_named(board: &Board, handle: &Handle) -> Option<Holder>
+    ensures { result ≡ holder_named board.now.holders handle.now }
+{
+    let number = board.holders().by_handle(handle)?;
+    let (holder, _) = board.holders().holder(number);
+    Some(holder)
+}
+
+fn kind_left_out(board: &Board, row: &Row, handle: &Handle) -> Option<Refusal>
+    ensures { result ≡ kind_left_out board.now row.now handle.now }
+{
+    let kind = holder_named(board, handle)?.kind;
+    refuse_if(!lists_kind(row, kind), Refusal::HolderKind { kind })
+}
+
+/// The holder would hold too many numbers of the space, with so many more.
+fn over_cap(board: &Board, row: &Row, space: Space, handle: &Handle, more: u128) -> Option<Refusal>
+    requires { more ≤ 2 ^ 126 }
+    ensures { result ≡ over_cap board.now row.now space handle.now more }
+{
+    // A law: the sum is a number of the type.
+    holdings_are_bounded();
+    let _whole = board.entries();
+    let number = board.holders().by_handle(handle)?;
+    let held = board.held(number, space) + more;
+    let cap = row.cap;
+    refuse_if(cap < held, Refusal::OverCap { held, cap })
+}
+
+/// So many hundredths of an amount, rounded down, or the greatest number of the type where there would be more.
+#[tactic(auto, using(crate::proofs::Hundredths::hundredths_are))]
+fn hundredths(amount: u128, percent: u32) -> u128
+    ensures { result ≡ min (amount * percent / 100) (2 ^ 128 - 1) }
+{
+    let percent = u128::from(percent);
+    let rest = (amount % 100) * percent / 100;
+    (amount / 100).saturating_mul(percent).saturating_add(rest)
+}
+
+/// Too few of the holder's allocated numbers are sub-assigned.
+fn under_used(board: &Board, row: &Row, space: Space, handle: &Handle) -> Option<Refusal>
+    ensures { result ≡ under_used board.now row.now space handle.now }
+{
+    // There are no sub-assignments yet.
+    board.has_no_subs();
+    let used = 0;
+    let number = board.holders().by_handle(handle)?;
+    let held = board.allocated(number, space);
+    refuse_if(
+        0 < held && used < hundredths(held, row.percent),
+        Refusal::UnderUsed { used, held },
+    )
+}
+
+/// What is against a delegation by the row of its space and status.
+fn row_refusal(
+    board: &Board,
+    row: &Row,
+    space: Space,
+    amount: u32,
+    status: Delegation,
+    handle: &Handle,
+) -> Option<Refusal>
+    requires { IsRowOf space row.now }
+    ensures refusal { result ≡ first_of (delegate_rules board.now row.now space amount (status_of status) handle.now) }
+    ensures sized { IfNone result (has_size space amount ≡ true) }
+{
+    let amount_refusal = amount_out_of_policy(row, amount);
+    if amount_refusal.is_some() {
+        return amount_refusal;
+    }
+    let size = amount_size(space, amount);
+    let refusal = kind_left_out(board, row, handle).or(over_cap(board, row, space, handle, size));
+    match status {
+        Delegation::Allocate => refusal.or(under_used(board, row, space, handle)),
+        Delegation::Assign => refusal,
+    }
+}
+
+/// The first number of a range.
+fn first_number(range: &Range) -> Number
+    ensures { result ≡ first_number range.now }
+{
+    Number::of(range.space(), range.first())
+}
+
+/// The kind of delegation whose row is that of a piece's status.
+fn delegation_of(status: Status) -> Delegation
+    ensures { (rows : PlainRows) → row_in rows (status_of result) ≡ row_in rows status }
+{
+    match status {
+        Status::Assigned => Delegation::Assign,
+        _ => Delegation::Allocate,
+    }
+}
+
+/// The piece that holds the range's first number.
+#[tactic(auto, using(crate::proofs::PieceSizes::size_bound))]
+fn piece_of(board: &Board, range: &Range) -> Option<Piece>
+    ensures piece { result ≡ piece_of board.now.pool (first_number range.now) }
+    ensures size { IfSome result (λ piece. size_of piece.range ≤ 2 ^ 126) }
+{
+    board.piece_of(first_number(range))
+}
+
+/// What a transfer adds to what the new holder holds: nothing, where it holds the piece already.
+fn transferred_size(board: &Board, piece: &Piece, to: &Handle) -> u128
+    requires { size_of piece.now.range ≤ 2 ^ 126 }
+    ensures size { result ≡ transferred_size board.now piece.now to.now }
+    ensures bound { result ≤ 2 ^ 126 }
+{
+    if piece.card.holder == board.holders().by_handle(to) {
+        0
+    } else {
+        piece.range.size()
+    }
+}
+
+/// What is against a transfer of a range by the row of its space and of the piece's status.
+fn transfer_refusal(board: &Board, policy: &Policy, range: &Range, to: &Handle) -> Option<Refusal>
+    ensures { result ≡ on_piece board.now (first_number range.now) (transfer_rules board.now policy.now range.now.space to.now) }
+{
+    let piece = piece_of(board, range)?;
+    let space = range.space();
+    let row = policy.row(space, delegation_of(piece.card.status));
+    let more = transferred_size(board, &piece, to);
+    kind_left_out(board, &row, to).or(over_cap(board, &row, space, to, more))
+}
+
+/// What the policy allows of a kind of delegation of a space.
+#[tactic(auto, using(crate::proofs::PolicyRows::row_allows))]
+fn row_of(policy: &Policy, space: Space, delegation: Delegation) -> Row
+    ensures row { result ≡ policy_row policy.now space (status_of delegation) }
+    ensures allowed { IsRowOf space result }
+{
+    policy.row(space, delegation)
+}
+
+/// Why the policy doesn't allow the request, or nothing.
+pub(crate) fn policy_refusal(board: &Board, policy: &Policy, request: &Request) -> Option<Refusal>
+    ensures refusal { result ≡ first_of (policy_rules board.now policy.now request.now) }
+    ensures sized { IfNone result (IsSizedRequest request.now) }
+{
+    match request {
+        Request::Delegate {
+            space,
+            amount,
+            status,
+            handle,
+        } => {
+            let row = row_of(policy, *space, *status);
+            row_refusal(board, &row, *space, *amount, *status, handle)
+        }
+        Request::Transfer { range, to, .. } => transfer_refusal(board, policy, range, to),
+        _ => None,
+    }
+}

@@ -1,0 +1,88 @@
+//! The entry that a request becomes where nothing is against it.
+ghost use Rattle.std.specs.Prelude.{◌≡◌, None};
+ghost use Rattle.num_range.specs.Number.{PlainNumber};
+ghost use Rattle.reg_entry.specs.declared.request.Request.TheVariants.{Split};
+ghost use Rattle.reg_entry.specs.Covers.{chosen_start};
+ghost use Rattle.reg_entry.specs.Days.{clamped_day, days_later};
+ghost use Rattle.reg_entry.specs.Decision.{entry_day, until_for, proposed_entry};
+ghost use Rattle.board.specs.Starts.{MayStartAt};
+ghost use Rattle.request_core.specs.Sized.{IsSizedRequest};
+
+use crate::least_block::least_block;
+use board::{Board, amount_size};
+use policy_table::Policy;
+use reg_entry::{Entry, Name, Request};
+
+/// The greatest day that the register knows, 9999-12-31.
+const LAST_DATE: u32 = 2_932_896;
+
+/// A clock's day as the register takes it.
+fn clamped_day(day: u32) -> u32
+    ensures { result ≡ clamped_day day }
+{
+    day.clamp(1, LAST_DATE)
+}
+
+/// So many days later, or the greatest day.
+fn days_later(day: u32, days: u32) -> u32
+    ensures { result ≡ days_later day days }
+{
+    day.saturating_add(days).min(LAST_DATE)
+}
+
+/// The day of the next entry: no entry is older than the one before it.
+fn entry_day(board: &Board, day: u32) -> u32
+    ensures { result ≡ entry_day board.now day }
+{
+    clamped_day(day).max(board.last_day())
+}
+
+/// The day up to which the policy keeps a returned or transferred piece as it is.
+fn until_for(policy: &Policy, request: &Request, day: u32) -> u32
+    ensures { result ≡ until_for policy.now request.now day }
+{
+    match request {
+        Request::Return { .. } => days_later(day, policy.quarantine_days()),
+        Request::Transfer { .. } => days_later(day, policy.hold_days()),
+        _ => 0,
+    }
+}
+
+/// Where the block of a delegation starts. Nothing is sought for any other request.
+fn chosen_start(board: &Board, request: &Request) -> Option<u128>
+    requires { IsSizedRequest request.now }
+    ensures start { result ≡ chosen_start board.now request.now }
+    ensures may { MayStartAt request.now result }
+{
+    match request {
+        Request::Delegate { space, amount, .. } => least_block(
+            board.pieces().walk(*space),
+            *space,
+            amount_size(*space, *amount),
+        ),
+        _ => None,
+    }
+}
+
+pub(crate) fn proposed_entry(
+    board: &Board,
+    policy: &Policy,
+    day: u32,
+    who: &Name,
+    request: &Request,
+) -> Entry
+    requires { IsSizedRequest request.now }
+    ensures entry { result ≡ proposed_entry board.now policy.now day who.now request.now }
+    ensures split { (at : PlainNumber) → request.now ≡ Split at → result.card ≡ None }
+{
+    let day = entry_day(board, day);
+    let until = until_for(policy, request, day);
+    Entry {
+        seq: board.entries() + 1,
+        day,
+        who: *who,
+        request: *request,
+        cover: board.cover_for(request, chosen_start(board, request)),
+        card: board.card_for(request, day, until),
+    }
+}

@@ -1,0 +1,161 @@
+use crate::decide;
+use board::{Board, is_of_pieces_or_holders};
+use num_range::{Number, Range, Space};
+use policy_table::Policy;
+use reg_entry::{
+    Card, Cc, Delegation, Entry, Handle, Holder, Kind, Name, Refusal, Reply, Request, Rooms, Text,
+};
+use std::test::Fail;
+
+const POLICY: &str = r#"registry = "exreg"
+quarantine_days = 30
+hold_days = 365
+hostmasters = { local = "k-local-0001" }
+[zone]
+mname = "ns1.exreg.example"
+rname = "hostmaster.exreg.example"
+ttl = 172800
+refresh = 7200
+retry = 1800
+expire = 604800
+minimum = 3600
+servers = ["ns1.exreg.example"]
+[ipv4]
+allocated = { least = 20, most = 32, cap = 4294967296, percent = 0, kinds = ["lir"] }
+assigned = { least = 20, most = 32, cap = 4294967296, kinds = ["lir", "enduser"] }
+[ipv6]
+allocated = { least = 20, most = 64, cap = 2305843009213693952, percent = 0, kinds = ["lir"] }
+assigned = { least = 32, most = 64, cap = 2305843009213693952, kinds = ["lir", "enduser"] }
+[asn]
+allocated = { least = 1, most = 1024, cap = 4294967296, percent = 0, kinds = ["lir"] }
+assigned = { least = 1, most = 1024, cap = 4294967296, kinds = ["lir", "enduser"] }
+"#;
+
+const ROOMS: Rooms = Rooms {
+    pieces: 10,
+    holders: 2,
+    subs: 2,
+    reverse: 2,
+    entries: 10,
+    window: 1,
+};
+
+/// 2024-03-01.
+const TODAY: u32 = 19783;
+
+fn holder_of(handle: &Handle) -> Option<Holder> {
+    Some(Holder {
+        handle: *handle,
+        kind: Kind::Lir,
+        cc: Cc::read(b"NL")?,
+        name: Text::read(b"First Name")?,
+        email: Text::read(b"noc@example.net")?,
+    })
+}
+
+/// The answer to a request, of those that are decided today.
+fn answer(
+    board: &Board,
+    policy: &Policy,
+    day: u32,
+    who: &Name,
+    request: &Request,
+) -> Option<Reply> {
+    if !is_of_pieces_or_holders(request) {
+        return None;
+    }
+    Some(decide(board, policy, day, who, request))
+}
+
+/// The first entry, of a request that paints what it receives if it receives anything.
+fn first_entry(day: u32, who: &Name, request: &Request, received: Option<Range>) -> Entry {
+    Entry {
+        seq: 1,
+        day,
+        who: *who,
+        request: *request,
+        cover: received,
+        card: if received.is_some() {
+            Some(Card::plain())
+        } else {
+            None
+        },
+    }
+}
+
+/// Whether the request on a day becomes this entry.
+fn accepts(board: &Board, policy: &Policy, day: u32, entry: &Entry) -> bool {
+    answer(board, policy, day, &entry.who, &entry.request) == Some(Reply::Accepted(*entry))
+}
+
+/// Whether the request is refused so.
+fn refuses(board: &Board, policy: &Policy, who: &Name, request: &Request, why: Refusal) -> bool {
+    answer(board, policy, TODAY, who, request) == Some(Reply::Refused(why))
+}
+
+/// Requests that an empty register refuses, and why: for want of the holder, of the range, and of the IPv6 number in
+/// any pool.
+fn refused_requests(range: &Range, handle: &Handle) -> [(Request, Refusal); 3] {
+    let unpooled = Number::of(Space::Ipv6, 1 << 127);
+    [
+        (
+            Request::Delegate {
+                space: Space::Ipv4,
+                amount: 24,
+                status: Delegation::Allocate,
+                handle: *handle,
+            },
+            Refusal::UnknownHolder { handle: *handle },
+        ),
+        (
+            Request::Transfer {
+                range: *range,
+                from: *handle,
+                to: *handle,
+            },
+            Refusal::OutsidePool {
+                number: Number::of(range.space(), range.first()),
+            },
+        ),
+        (
+            Request::Receive {
+                range: Range::between(Space::Ipv6, 1 << 127, 1 << 127),
+            },
+            Refusal::OutsidePool { number: unpooled },
+        ),
+    ]
+}
+
+// Blocks of RFC 5737, RFC 3849 and RFC 5398.
+#[test]
+fn requests_of_an_empty_register(rt: HostRuntime) -> Result<(), Fail> {
+    let board = Board::with_room(rt.alloc(), ROOMS)?;
+    let policy = Policy::read(rt.alloc(), POLICY.as_bytes())?;
+    let local = Name::read(b"local").ok_or("a name")?;
+    let other = Name::read(b"other").ok_or("a name")?;
+    let handle = Handle::read(b"ORG-A").ok_or("a handle")?;
+    let holder = holder_of(&handle).ok_or("a holder")?;
+    let add = Request::AddHolder { holder };
+    let range = Range::between(Space::Ipv4, 0xc000_0200, 0xc000_02ff);
+    let receive = Request::Receive { range };
+    // No day before 1970-01-02 and none after 9999-12-31.
+    for (clock, day) in [(TODAY, TODAY), (0, 1), (u32::MAX, 2_932_896)] {
+        let entry = first_entry(day, &local, &receive, Some(range));
+        assert!(rt; accepts(&board, &policy, clock, &entry), "on {clock}");
+    }
+    let entry = first_entry(TODAY, &local, &add, None);
+    assert!(rt; accepts(&board, &policy, TODAY, &entry));
+    assert!(rt;
+        refuses(
+            &board,
+            &policy,
+            &other,
+            &receive,
+            Refusal::UnknownHostmaster
+        )
+    );
+    for (request, refusal) in refused_requests(&range, &handle).iter() {
+        assert!(rt; refuses(&board, &policy, &local, request, *refusal));
+    }
+    Ok(())
+}
