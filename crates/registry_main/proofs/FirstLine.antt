@@ -9,7 +9,7 @@ use Rattle.std.proofs.lemmas.Bool.{cases_Bool, cases_lt, lt-ltb, ne_eqb, eqb-tru
 use Rattle.std.specs.Prelude.{Err}
 use Rattle.desk_lang.specs.Words.{malformed_at}
 use Rattle.desk_lang.specs.Grammar.{line_of}
-use Rattle.registry_main.specs.Session.{PlainSession, Step, answered, answer_text, step_of, replies, replies_to}
+use Rattle.registry_main.specs.Session.{PlainSession, Step, answered, step_of, replies, replies_to}
 use Rattle.registry_main.specs.LineBuffer.{HasNoNewline, IsAnsweredAs}
 
 abbrev is_newline : ℕ → Bool
@@ -58,11 +58,11 @@ lines-last (b ∷ bs) h some = ap lines_of_parts (split_last (b ∷ bs) h) ∙ r
 
 pub replies_to-line : (r : PlainSession) (line rest : List ℕ) → HasNoNewline line
     → replies_to r (line ++ 10 ∷ rest)
-    ≡ answer_text (answered r (strip_carriage_return line)).answer ++ replies_to (answered r (strip_carriage_return line)).session rest
+    ≡ (answered r (strip_carriage_return line)).text ++ replies_to (answered r (strip_carriage_return line)).session rest
 replies_to-line r line rest h = ap (replies r) (lines-line line rest h)
 
 pub replies_to-last : (r : PlainSession) (line : List ℕ) → HasNoNewline line → 0 < length line
-    → replies_to r line ≡ answer_text (answered r line).answer
+    → replies_to r line ≡ (answered r line).text
 replies_to-last r line h some = ap (replies r) (lines-last line h some) ∙ append-nil _
 
 -- ---- lines that are too long
@@ -110,17 +110,17 @@ answer_overlong r line long = ap (step_of r) (overlong_is_malformed line long)
 
 -- a text whose first line is too long, up to its end or up to a newline
 overlong-last : (r : PlainSession) (line : List ℕ) → HasNoNewline line → 1025 < length line
-    → replies_to r line ≡ answer_text (too_long r).answer
+    → replies_to r line ≡ (too_long r).text
 overlong-last r line h long =
-    replies_to-last r line h (omega arith) ∙ ap (λ a. answer_text a.answer) (answer_overlong r line (omega arith))
+    replies_to-last r line h (omega arith) ∙ ap (λ a. a.text) (answer_overlong r line (omega arith))
 
 overlong-line : (r : PlainSession) (line rest : List ℕ) → HasNoNewline line → 1025 < length line
-    → replies_to r (line ++ 10 ∷ rest) ≡ answer_text (too_long r).answer ++ replies_to r rest
+    → replies_to r (line ++ 10 ∷ rest) ≡ (too_long r).text ++ replies_to r rest
 overlong-line r line rest h long =
     let stripped = strip_carriage_return line in
     let enough : 1024 < length stripped = let s = strip_loses_one line in omega arith in
     replies_to-line r line rest h
-    ∙ ap (λ a. answer_text a.answer ++ replies_to a.session rest) (answer_overlong r stripped enough)
+    ∙ ap (λ a. a.text ++ replies_to a.session rest) (answer_overlong r stripped enough)
 
 -- every line that is too long is answered as every other
 overlong_same : (r : PlainSession) (long other : List ℕ) → HasNoNewline long → HasNoNewline other → 1025 < length long → 1025 < length other
@@ -131,12 +131,12 @@ overlong_same r long other h k m n tail =
     let longer : (xs : List ℕ) → 1025 < length xs → 1025 < length (xs ++ found.line) = λ xs l. simp length-append (omega arith) in
     elim found.rest [
       | inl e ↦
-          let last : (xs : List ℕ) → HasNoNewline xs → 1025 < length xs → replies_to r (xs ++ tail) ≡ answer_text (too_long r).answer =
+          let last : (xs : List ℕ) → HasNoNewline xs → 1025 < length xs → replies_to r (xs ++ tail) ≡ (too_long r).text =
           λ xs c l. ap (λ t. replies_to r (xs ++ t)) e ∙ overlong-last r (xs ++ found.line) (clear xs c) (longer xs l) in
           last long h m ∙ sym (last other k n)
       | inr w ↦
           let line : (xs : List ℕ) → HasNoNewline xs → 1025 < length xs
-          → replies_to r (xs ++ tail) ≡ answer_text (too_long r).answer ++ replies_to r w.0 =
+          → replies_to r (xs ++ tail) ≡ (too_long r).text ++ replies_to r w.0 =
           λ xs c l. ap (λ t. replies_to r (xs ++ t)) w.1 ∙ ap (replies_to r) (sym (append_assoc xs found.line (10 ∷ w.0)))
           ∙ overlong-line r (xs ++ found.line) w.0 (clear xs c) (longer xs l) in
           line long h m ∙ sym (line other k n)
@@ -161,9 +161,6 @@ pub kept_is_enough : (old bytes new : List ℕ) → HasNoNewline old → HasNoNe
     → IsAnsweredAs new (old ++ bytes)
 kept_is_enough old bytes new h k e = λ r tail.
     ap (λ l. replies_to r (l ++ tail)) e ∙ held_is_enough (old ++ bytes) (no_newline-append old bytes h k) r tail
-
-pub kept_no_more : (old bytes new : List ℕ) → new ≡ take 1026 (old ++ bytes) → length new ≤ length old + length bytes
-kept_no_more old bytes new e = omega (arith, ap length e, length-take 1026 (old ++ bytes), length-append old bytes)
 
 -- as many bytes added as there is room for
 pub with_front_of : (old bytes : List ℕ) (free count room : ℕ) → free + length old ≡ room → count ≡ min free (length bytes)

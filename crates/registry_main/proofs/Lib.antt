@@ -1,9 +1,7 @@
-pub mod Dates
+pub mod Entries
 pub mod FirstLine
-pub mod FoundBlock
-pub mod Numbering
+pub mod Front
 pub mod OneWord
-pub mod Registers
-pub mod Rounding
 mod Rows
+pub mod Shown
 pub mod Written

@@ -4,7 +4,8 @@ use Rattle.std.specs.Result.{OnOk, OnErr}
 use Rattle.std.specs.Str.Lines.{strip_carriage_return}
 use Rattle.std.specs.Io.KnownBytes.{append_known, Appends, Keeps, Consumes, IsAtEnd}
 use Rattle.link_face.specs.Bytes.{AppendsPrefix}
-use Rattle.registry_main.specs.Session.{PlainSession, answered, answer_text, replies_to}
+use Rattle.registry_main.specs.Session.{PlainSession, new_session, answered, replies_to}
+use Rattle.reg_entry.specs.Policy.{PlainPolicy}
 use Rattle.registry_main.specs.LineBuffer.{HasNoNewline, IsAnsweredAs}
 use Rattle.registry_main.proofs.FirstLine.{replies_to-line, replies_to-last}
 use Rattle.std.proofs.KnownBytes.{Keeps-trans}
@@ -12,12 +13,21 @@ use Rattle.std.proofs.lemmas.Bool.{cases_lt, eqb-true}
 use Rattle.std.specs.Prelude.{◌==◌, MatchOption, Bool, true, false, if◌then◌else◌}
 use Rattle.std.specs.Option.{option_map}
 use Rattle.addr_text.specs.Reading.{parted_at}
-use Rattle.registry_main.specs.Batch.{with_replies, with_all_replies, BeginsWith}
+use Rattle.registry_main.specs.Batch.{with_replies, with_all_replies, with_batch_text, BeginsWith, IsFrontWritten}
 
--- nothing written is a prefix of anything
-pub AppendsPrefix_none : (a : Option (List ℕ)) (bs : List ℕ) → AppendsPrefix a a bs
-AppendsPrefix_none None bs = tt
-AppendsPrefix_none (Some xs) bs = (0, sym (append-nil xs))
+-- what a failed write left is a front of what it was to write
+pub prefix_begins : (a b : Option (List ℕ)) (text : List ℕ) → AppendsPrefix a b text → IsFrontWritten a text b
+prefix_begins None b text p = tt
+prefix_begins (Some xs) None text p = absurd p
+prefix_begins (Some xs) (Some ys) text p =
+    (drop p.0 text, ap (λ l. xs ++ l) (sym (take-append-drop p.0 text)) ∙ sym (append_assoc xs (take p.0 text) (drop p.0 text)) ∙ ap (λ l. l ++ drop p.0 text) (sym p.1))
+
+-- a front of a text is one of a longer text
+pub front_more : (a b : Option (List ℕ)) (text more : List ℕ) → IsFrontWritten a text b → IsFrontWritten a (text ++ more) b
+front_more None b text more h = tt
+front_more (Some xs) None text more h = absurd h
+front_more (Some xs) (Some ys) text more h =
+    (h.0 ++ more, sym (append_assoc xs text more) ∙ ap (λ l. l ++ more) h.1 ∙ append_assoc ys h.0 more)
 
 -- a fact holds at an error where it holds
 pub OnErr_always : {T E : Type 0} (r : Result T E) {P : Type 0} → P → OnErr r P
@@ -27,34 +37,31 @@ OnErr_always (Err e) p = p
 -- a line whose reply was written is answered
 pub line_answered : (a b : Option (List ℕ)) (r r' : PlainSession) (line text : List ℕ)
     → HasNoNewline line → text ≡ strip_carriage_return line
-    → Appends a b (answer_text (answered r text).answer) → r' ≡ (answered r text).session
+    → Appends a b (answered r text).text → r' ≡ (answered r text).session
     → (tail : List ℕ) → Keeps (with_replies a r (line ++ 10 ∷ tail)) (with_replies b r' tail)
 line_answered None b r r' line text h e p q tail = tt
 line_answered (Some xs) None r r' line text h e p q tail = absurd p
 line_answered (Some xs) (Some ys) r r' line text h e p q tail =
-    let reply : List ℕ = answer_text (answered r text).answer in
+    let reply : List ℕ = (answered r text).text in
     let more : List ℕ = replies_to (answered r text).session tail in
     let whole : replies_to r (line ++ 10 ∷ tail) ≡ reply ++ more =
-    replies_to-line r line tail h ∙ ap (λ t. answer_text (answered r t).answer ++ replies_to (answered r t).session tail) (sym e) in
+    replies_to-line r line tail h ∙ ap (λ t. (answered r t).text ++ replies_to (answered r t).session tail) (sym e) in
     ap (λ s. ys ++ replies_to s tail) q ∙ ap (λ l. l ++ more) p ∙ append_assoc xs reply more ∙ ap (λ l. xs ++ l) (sym whole)
 
 -- where a part of its reply was written, that is a part of what was to be written
 pub line_broken : (a b : Option (List ℕ)) (r : PlainSession) (line text : List ℕ)
     → HasNoNewline line → text ≡ strip_carriage_return line
-    → AppendsPrefix a b (answer_text (answered r text).answer)
+    → IsFrontWritten a (answered r text).text b
     → (tail : List ℕ) → BeginsWith (with_replies a r (line ++ 10 ∷ tail)) b
 line_broken None b r line text h e p tail = tt
 line_broken (Some xs) None r line text h e p tail = absurd p
 line_broken (Some xs) (Some ys) r line text h e p tail =
-    let reply : List ℕ = answer_text (answered r text).answer in
+    let reply : List ℕ = (answered r text).text in
     let more : List ℕ = replies_to (answered r text).session tail in
     let whole : replies_to r (line ++ 10 ∷ tail) ≡ reply ++ more =
-    replies_to-line r line tail h ∙ ap (λ t. answer_text (answered r t).answer ++ replies_to (answered r t).session tail) (sym e) in
-    let front : List ℕ = take p.0 reply in
-    let rest : List ℕ = drop p.0 reply ++ more in
-    let parted : reply ++ more ≡ front ++ rest =
-    ap (λ l. l ++ more) (sym (take-append-drop p.0 reply)) ∙ append_assoc front (drop p.0 reply) more in
-    (rest, ap (λ l. xs ++ l) (whole ∙ parted) ∙ sym (append_assoc xs front rest) ∙ ap (λ l. l ++ rest) (sym p.1))
+    replies_to-line r line tail h ∙ ap (λ t. (answered r t).text ++ replies_to (answered r t).session tail) (sym e) in
+    let rest : List ℕ = p.0 ++ more in
+    (rest, ap (λ l. xs ++ l) whole ∙ sym (append_assoc xs reply more) ∙ ap (λ l. l ++ more) p.1 ∙ append_assoc ys p.0 more)
 
 -- ---- a piece of the script
 
@@ -179,21 +186,16 @@ no_last_line (Some xs) r [] e = sym (append-nil xs)
 no_last_line (Some xs) r (b ∷ bs) e = absurd (omega arith)
 
 pub last_answered : (w w' : Option (List ℕ)) (r : PlainSession) (line : List ℕ) → HasNoNewline line → 0 < length line
-    → Appends w w' (answer_text (answered r line).answer) → Keeps (with_replies w r line) w'
+    → Appends w w' (answered r line).text → Keeps (with_replies w r line) w'
 last_answered None w' r line h some p = tt
 last_answered (Some xs) None r line h some p = absurd p
 last_answered (Some xs) (Some ys) r line h some p = p ∙ ap (λ t. xs ++ t) (sym (replies_to-last r line h some))
 
 pub last_broken : (w w' : Option (List ℕ)) (r : PlainSession) (line : List ℕ) → HasNoNewline line → 0 < length line
-    → AppendsPrefix w w' (answer_text (answered r line).answer) → BeginsWith (with_replies w r line) w'
+    → IsFrontWritten w (answered r line).text w' → BeginsWith (with_replies w r line) w'
 last_broken None w' r line h some p = tt
 last_broken (Some xs) None r line h some p = absurd p
-last_broken (Some xs) (Some ys) r line h some p =
-    let reply : List ℕ = answer_text (answered r line).answer in (
-      drop p.0 reply,
-      ap (λ t. xs ++ t) (replies_to-last r line h some ∙ sym (take-append-drop p.0 reply))
-          ∙ sym (append_assoc xs (take p.0 reply) (drop p.0 reply)) ∙ ap (λ l. l ++ drop p.0 reply) (sym p.1),
-    )
+last_broken (Some xs) (Some ys) r line h some p = (p.0, ap (λ t. xs ++ t) (replies_to-last r line h some) ∙ p.1)
 
 pub OnOk_map : {T E : Type 0} (r : Result T E) {P Q : Type 0} → (P → Q) → OnOk r P → OnOk r Q
 OnOk_map (Ok x) f p = f p
@@ -202,18 +204,6 @@ OnOk_map (Err e) f p = tt
 pub OnErr_map : {T E : Type 0} (r : Result T E) {P Q : Type 0} → (P → Q) → OnErr r P → OnErr r Q
 OnErr_map (Ok x) f p = tt
 OnErr_map (Err e) f p = f p
-
--- ---- the count of entries
-
--- so many entries and kept bytes were made of a script whose bytes are below 2 ^ 64
-pub bytes_spent : (entries held budget count entries' held' budget' : ℕ)
-    → (0 < entries + held → entries + held + budget < 2 ^ 64) → budget < 2 ^ 64 → budget' + count ≡ budget
-    → entries' + held' ≤ entries + held + count → entries' + held' + budget' < 2 ^ 64
-bytes_spent entries held budget count entries' held' budget' before bounded spent made =
-    elim (cases_lt 0 (entries + held)) [
-      | inl some ↦ let h = before some in omega arith
-      | inr none ↦ omega arith
-    ]
 
 -- ---- the end of the script, after which the last line is answered
 
@@ -230,3 +220,16 @@ pub script_broken : {T E : Type 0} (result : Result T E) (whole w w' : Option (L
 script_broken (Ok x) whole w w' r line left left' kept c e h = tt
 script_broken (Err x) whole w w' r line left left' kept c e h =
     BeginsWith_kept _ _ _ kept (BeginsWith_kept _ _ _ (script_ended w r line left left' c e) h)
+
+-- ---- the batch
+
+-- a session that is new answers the batch text
+pub batch_replies : (p : PlainPolicy) (day : ℕ) (s : PlainSession) (w left : Option (List ℕ)) → s ≡ new_session p day
+    → with_all_replies w s [] left ≡ with_batch_text p day w left
+batch_replies p day s w None e = refl
+batch_replies p day s w (Some text) e = ap (λ (t : PlainSession). append_known w (replies_to t text)) e
+
+pub kept_begins : (a b : Option (List ℕ)) → Keeps a b → BeginsWith a b
+kept_begins None b k = tt
+kept_begins (Some x) None k = absurd k
+kept_begins (Some x) (Some y) k = ([], sym k ∙ sym (append-nil y))

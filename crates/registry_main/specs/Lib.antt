@@ -1,6 +1,6 @@
-pub mod Fitting
-pub mod Dates
-pub mod Holders
 pub mod Session
 pub mod LineBuffer
 pub mod Batch
+pub mod Answer
+pub mod Exit
+pub mod PolicyBytes

@@ -2,19 +2,16 @@
 ghost use Rattle.std.specs.Prelude.{◌≡◌, ◌≤◌, ◌<◌, ◌+◌, ◌++◌, ◌^◌, ℕ, List, [], length, ◌∷◌, OnOk, OnErr, MatchOption, ◌≢◌};
 ghost use Rattle.std.specs.Io.KnownBytes.{Appends, Keeps, IsAtEnd};
 ghost use Rattle.std.specs.Str.Lines.{strip_carriage_return};
-ghost use Rattle.link_face.specs.Bytes.{AppendsPrefix};
 ghost use Rattle.link_face.specs.Faults.{HasRisen};
-ghost use Rattle.registry_main.specs.Session.{answered, answer_text};
+ghost use Rattle.registry_main.specs.Session.{answered};
 ghost use Rattle.registry_main.specs.LineBuffer.{HasNoNewline};
-ghost use Rattle.registry_main.specs.Batch.{with_replies, with_all_replies, BeginsWith};
+ghost use Rattle.registry_main.specs.Batch.{with_replies, with_all_replies, BeginsWith, IsFrontWritten};
 ghost use Rattle.registry_main.specs.declared.batch.Stop.TheVariants.{Read, Write};
 
 use crate::line_buffer::LineBuffer;
 use crate::session::Session;
-use arrayvec::ArrayVec;
 use desk_lang::parted_at;
 use link_face::{Sink, Source};
-use std::alloc::AllocError;
 
 /// How many bytes are read at once.
 const PIECE: usize = 8192;
@@ -24,18 +21,6 @@ const PIECE: usize = 8192;
 pub enum Stop {
     Read,
     Write,
-    Memory,
-}
-
-impl From<AllocError> for Stop {
-    ghost use Rattle.std.specs.Prelude.{◌≡◌};
-    ghost use Rattle.registry_main.specs.declared.batch.Stop.TheVariants.{Memory};
-
-    ghost from_gives = { λ _ stop. stop ≡ Memory };
-
-    fn from(_: AllocError) -> Self {
-        Stop::Memory
-    }
 }
 
 /// The line without the one carriage return at its end.
@@ -50,21 +35,15 @@ fn without_return(line: &[u8]) -> &[u8]
 
 /// Answers one line, which is handed in without its line end.
 fn answer_line<K: Sink>(session: &mut Session, line: &[u8], out: &mut K) -> Result<(), Stop>
-    requires { session.old.entries + 1 < 2 ^ 64 }
-    ensures ok { OnOk result (Appends (K.written out.old) (K.written out.new) (answer_text (answered session.old line.now).answer)) }
+    ensures ok { OnOk result (Appends (K.written out.old) (K.written out.new) (answered session.old line.now).text) }
     ensures session { OnOk result (session.new ≡ (answered session.old line.now).session) }
-    ensures entries { session.new.entries ≤ session.old.entries + 1 }
-    ensures err { OnErr result (AppendsPrefix (K.written out.old) (K.written out.new) (answer_text (answered session.old line.now).answer)) }
+    ensures err { OnErr result (IsFrontWritten (K.written out.old) (answered session.old line.now).text (K.written out.new)) }
     ensures faults { K.faults out.old ≤ K.faults out.new }
     ensures write { result ≡ Err Write → HasRisen (K.faults out.old) (K.faults out.new) }
     ensures no_read { result ≢ Err Read }
 {
-    let Some(answer) = session.answer(line)? else {
-        return Ok(());
-    };
-    let mut text = ArrayVec::new();
-    answer.write(&mut text);
-    match out.write(text.as_slice()) {
+    let answer = session.answer(line);
+    match answer.write(session, out) {
         Ok(()) => Ok(()),
         Err(_) => Err(Stop::Write),
     }
@@ -72,11 +51,9 @@ fn answer_line<K: Sink>(session: &mut Session, line: &[u8], out: &mut K) -> Resu
 
 /// Answers the line that is kept, whose end has come, and begins the next.
 fn end_line<K: Sink>(session: &mut Session, line: &mut LineBuffer, out: &mut K) -> Result<(), Stop>
-    requires { session.old.entries + 1 < 2 ^ 64 }
     ensures ok { OnOk result ((tail : List ℕ) →
         Keeps (with_replies (K.written out.old) session.old (line.old ++ 10 ∷ tail)) (with_replies (K.written out.new) session.new tail)) }
     ensures empty { OnOk result (line.new ≡ []) }
-    ensures entries { session.new.entries ≤ session.old.entries + 1 }
     ensures err { OnErr result ((tail : List ℕ) →
         BeginsWith (with_replies (K.written out.old) session.old (line.old ++ 10 ∷ tail)) (K.written out.new)) }
     ensures faults { K.faults out.old ≤ K.faults out.new }
@@ -103,10 +80,8 @@ fn answer_lines<K: Sink>(
     piece: &[u8],
     out: &mut K,
 ) -> Result<(), Stop>
-    requires { session.old.entries + length line.old + length piece.now < 2 ^ 64 }
     ensures ok { OnOk result ((tail : List ℕ) →
         Keeps (with_replies (K.written out.old) session.old (line.old ++ (piece.now ++ tail))) (with_replies (K.written out.new) session.new (line.new ++ tail))) }
-    ensures entries { OnOk result (session.new.entries + length line.new ≤ session.old.entries + length line.old + length piece.now) }
     ensures err { OnErr result ((tail : List ℕ) →
         BeginsWith (with_replies (K.written out.old) session.old (line.old ++ (piece.now ++ tail))) (K.written out.new)) }
     ensures faults { K.faults out.old ≤ K.faults out.new }
@@ -125,7 +100,6 @@ fn answer_lines<K: Sink>(
 
 /// Answers the last line, where it has no line end.
 fn end_script<K: Sink>(session: &mut Session, line: &LineBuffer, out: &mut K) -> Result<(), Stop>
-    requires { session.old.entries + length line.now < 2 ^ 64 }
     ensures ok { OnOk result (Keeps (with_replies (K.written out.old) session.old line.now) (K.written out.new)) }
     ensures err { OnErr result (BeginsWith (with_replies (K.written out.old) session.old line.now) (K.written out.new)) }
     ensures faults { K.faults out.old ≤ K.faults out.new }
@@ -145,7 +119,6 @@ pub fn answer_script<T: Source, K: Sink>(
     script: &mut T,
     out: &mut K,
 ) -> Result<(), Stop>
-    requires { session.old.entries ≡ 0 }
     ensures ok { OnOk result (Keeps (with_all_replies (K.written out.old) session.old [] (T.left script.old)) (K.written out.new)) }
     ensures end { OnOk result (IsAtEnd (T.left script.new)) }
     ensures err { OnErr result (BeginsWith (with_all_replies (K.written out.old) session.old [] (T.left script.old)) (K.written out.new)) }

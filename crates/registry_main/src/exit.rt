@@ -1,29 +1,63 @@
 //! How the program ends.
+ghost use Rattle.std.specs.Prelude.{◌≡◌};
+ghost use Rattle.registry_main.specs.Exit.{exit_status};
 
-/// The end of a run. The number is the status of the process.
+use policy_table::PolicyFault;
+use std::fmt;
+
+/// The end of a run.
 #[derive(Clone, Copy, Debug, PartialEq, Eq)]
 pub enum Exit {
     /// All was done.
-    Done = 0,
+    Done,
     /// The words aren't those of a command.
-    Usage = 2,
-    /// The script couldn't be read on.
-    ReadFault = 5,
+    Usage,
+    /// The policy's bytes are no policy.
+    PolicyRefused(PolicyFault),
+    /// The policy or the script couldn't be read on.
+    ReadFault,
     /// A reply couldn't be written.
-    WriteFault = 6,
+    WriteFault,
     /// There was no memory.
-    NoMemory = 8,
+    NoMemory,
 }
 
 impl Exit {
-    /// The line on standard error, where there is one.
-    pub fn fault_text(self) -> Option<&'static str> {
+    /// The status of the process.
+    pub fn status(&self) -> u8
+        ensures { result ≡ exit_status self.now }
+    {
         match self {
-            Exit::Done => None,
-            Exit::Usage => Some("usage: registry_main batch"),
-            Exit::ReadFault => Some("read fault"),
-            Exit::WriteFault => Some("write fault"),
-            Exit::NoMemory => Some("no memory"),
+            Exit::Done => 0,
+            Exit::Usage => 2,
+            Exit::PolicyRefused(_) => 3,
+            Exit::ReadFault => 5,
+            Exit::WriteFault => 6,
+            Exit::NoMemory => 8,
+        }
+    }
+}
+
+/// The line on standard error, without its end; nothing where all was done.
+impl fmt::Display for Exit {
+    ghost use Rattle.std.specs.Prelude.{Some};
+    ghost use Rattle.registry_main.specs.Exit.{fault_text};
+
+    ghost output = { λ exit. Some (fault_text exit) };
+
+    fn fmt<W: fmt::Write>(&self, f: &mut fmt::Formatter<W>) -> fmt::Result {
+        match self {
+            Exit::Done => Ok(()),
+            Exit::Usage => f.write_str("usage: registry_main batch"),
+            Exit::PolicyRefused(PolicyFault::TooLong) => f.write_str("policy: too long"),
+            Exit::PolicyRefused(PolicyFault::Text) => f.write_str("policy: text"),
+            Exit::PolicyRefused(PolicyFault::Missing(key)) => write!(f, "policy: missing {key}"),
+            Exit::PolicyRefused(PolicyFault::Wrong(key)) => write!(f, "policy: wrong {key}"),
+            Exit::PolicyRefused(PolicyFault::Bounds(key)) => write!(f, "policy: bounds {key}"),
+            Exit::PolicyRefused(PolicyFault::NoMemory) => f.write_str("policy: no memory"),
+            Exit::ReadFault => f.write_str("read fault"),
+            Exit::WriteFault => f.write_str("write fault"),
+            Exit::NoMemory => f.write_str("no memory"),
         }
     }
 }

@@ -1,5 +1,5 @@
 //! The line that is being read, of which no more is kept than decides its answer.
-ghost use Rattle.std.specs.Prelude.{◌≡◌, ◌≤◌, ◌+◌, ◌++◌, [], length, take};
+ghost use Rattle.std.specs.Prelude.{◌≡◌, ◌++◌, [], take};
 ghost use Rattle.registry_main.specs.LineBuffer.{HasNoNewline, IsAnsweredAs};
 
 use arrayvec::ArrayVec;
@@ -45,8 +45,7 @@ impl LineBuffer {
     /// The line goes on with these bytes.
     pub fn extend(&mut self, bytes: &[u8])
         requires { HasNoNewline bytes.now }
-        ensures same { IsAnsweredAs self.new (self.old ++ bytes.now) }
-        ensures grows { length self.new ≤ length self.old + length bytes.now }
+        ensures { IsAnsweredAs self.new (self.old ++ bytes.now) }
     {
         keep_front(&mut self.bytes, bytes);
     }

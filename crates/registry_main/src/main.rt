@@ -3,17 +3,18 @@
 
 mod answer;
 mod batch;
+mod due_lines;
 mod exit;
-mod holders;
 mod laws;
-mod least_block;
 mod line_buffer;
+mod policy_bytes;
+mod policy_file;
 mod run;
 mod session;
-mod unicast;
 
 use exit::Exit;
 use link_face::{InSource, OutSink, SystemDay};
+use policy_file::PolicyFile;
 use std::process::ExitCode;
 use std::{env, io};
 
@@ -32,16 +33,17 @@ fn run_program(rt: &HostRuntime) -> Exit {
         Ok(words) => words,
         Err(exit) => return exit,
     };
+    let mut policy = InSource::new(PolicyFile::open(rt, "policy.toml"));
     let mut script = InSource::new(rt.stdin());
     let mut out = OutSink::new(rt.stdout());
     let mut clock = SystemDay::new(rt);
-    run::run(rt, &words, &mut script, &mut out, &mut clock)
+    run::run(rt, &words, &mut policy, &mut script, &mut out, &mut clock)
 }
 
 fn main(rt: HostRuntime) -> ExitCode {
     let exit = run_program(&rt);
-    if let Some(text) = exit.fault_text() {
-        let _ = eprintln!(rt; "{text}");
+    if exit != Exit::Done {
+        let _ = eprintln!(rt; "{exit}");
     }
-    ExitCode::from(exit as u8)
+    ExitCode::from(exit.status())
 }

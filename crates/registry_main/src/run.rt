@@ -1,21 +1,31 @@
 //! The program, over whatever it reads from and writes to.
-ghost use Rattle.std.specs.Prelude.{◌≡◌, ◌≢◌, ◌<◌, ◌↔◌, ℕ, List, [], ◌∷◌, IsTrue, map, codes};
+ghost use Rattle.std.specs.Prelude.{◌≡◌, ◌≢◌, ◌≤◌, ◌<◌, ◌+◌, ◌↔◌, ◌⊎◌, ℕ, List, [], ◌∷◌, Ok, Err, IsTrue, map, codes};
 ghost use Rattle.std.specs.String.{string_bytes};
+ghost use Rattle.num_range.specs.Number.{PlainNumber};
 ghost use Rattle.num_range.specs.Range.{PlainRange, IsRange};
 ghost use Rattle.num_range.specs.declared.space.Space.{Space};
-ghost use Rattle.reg_entry.specs.Partition.{pieces_in};
-ghost use Rattle.reg_entry.specs.Pieces.{overlap, IsLeastTaken};
 ghost use Rattle.reg_entry.specs.Blocks.{least_block, IsLeastBlock};
+ghost use Rattle.reg_entry.specs.Entries.{last_card, received_size};
+ghost use Rattle.reg_entry.specs.Next.{IsLegal};
+ghost use Rattle.reg_entry.specs.Pieces.{overlap, size_sum, IsLeastTaken};
+ghost use Rattle.reg_entry.specs.Policy.{PlainPolicy, IsPolicy};
+ghost use Rattle.reg_entry.specs.Register.{register_after, register_pieces, card_of};
+ghost use Rattle.policy_table.specs.declared.fault.PolicyFault.{PolicyFault};
+ghost use Rattle.policy_table.specs.declared.fault.PolicyFault.TheVariants as faults;
 ghost use Rattle.link_face.specs.Faults.{HasRisen};
-ghost use Rattle.registry_main.specs.Session.{new_session, session_after};
+ghost use Rattle.registry_main.specs.Session.{rooms, new_session, session_after, accepted_entries};
 ghost use Rattle.registry_main.specs.Batch.{IsAnswered};
-ghost use Rattle.registry_main.specs.declared.exit.Exit.TheVariants.{Usage, ReadFault, WriteFault};
+ghost use Rattle.registry_main.specs.PolicyBytes.{policy_front, IsSaid, IfSaid};
+ghost use Rattle.registry_main.specs.declared.exit.Exit.TheVariants.{Done, Usage, PolicyRefused, ReadFault, WriteFault, NoMemory};
 
 use crate::batch::{Stop, answer_script};
 use crate::exit::Exit;
-use crate::laws::answers_are_least;
+use crate::laws::{accepted_entries_are_legal, answers_are_least, scripts_conserve};
+use crate::policy_bytes::{NoPolicy, read_policy};
 use crate::session::Session;
 use link_face::{Clock, Sink, Source};
+use policy_table::Policy;
+use std::alloc::Global;
 
 fn is_batch(words: &[String]) -> bool
     ensures { IsTrue result ↔ (map string_bytes words.now ≡ codes "batch" ∷ []) }
@@ -26,49 +36,100 @@ fn is_batch(words: &[String]) -> bool
     }
 }
 
-/// Does what the words say: `batch` answers the script line by line.
-pub fn run<R: AllocGlobal, T: Source, K: Sink, C: Clock>(
-    rt: &R,
-    words: &[String],
+/// Answers a script under a policy, on a day of the clock.
+fn answer_batch<T: Source, K: Sink, C: Clock>(
+    alloc: Global,
+    policy: Policy,
     script: &mut T,
     out: &mut K,
-    clock: &mut C,
+    clock: &C,
 ) -> Exit
-    // The words are refused exactly where they aren't `batch` alone, and then nothing is read and nothing written.
-    ensures usage { (result ≡ Usage) ↔ (map string_bytes words.now ≢ codes "batch" ∷ []) }
-    ensures untouched { result ≡ Usage → (script.new ≡ script.old) × (out.new ≡ out.old) }
-
-    // What is written are the replies of the register that the lines of the script build, on a day of the clock.
-    ensures answered { result ≢ Usage →
-        (day : ℕ) × C.states clock.old day
-        × IsAnswered day (K.written out.old) (T.left script.old) result (K.written out.new) (T.left script.new) }
-
-    // In every register that a script builds, a delegation takes the least free block, aligned and all of it available,
-    // and an overlap is told by the least number that is taken.
-    ensures least { (day : ℕ) (script : List (List ℕ)) (space : Space) (size : ℕ) → 0 < size →
-        IsLeastBlock (pieces_in (session_after (new_session day) script).pool space) space size
-        (least_block (pieces_in (session_after (new_session day) script).pool space) space size) }
-    ensures taken { (day : ℕ) (script : List (List ℕ)) (range : PlainRange) → IsRange range →
-        IsLeastTaken (pieces_in (session_after (new_session day) script).pool range.space) range
-        (overlap (pieces_in (session_after (new_session day) script).pool range.space) range) }
-
-    // A fault is answered only where the outside failed in this run.
-    ensures read_fault { result ≡ ReadFault → HasRisen (T.faults script.old) (T.faults script.new) }
-    ensures write_fault { result ≡ WriteFault → HasRisen (K.faults out.old) (K.faults out.new) }
+    ensures answered { (day : ℕ) × C.states clock.now day
+        × IsAnswered policy day (K.written out.old) (T.left script.old) result (K.written out.new) (T.left script.new) }
+    ensures no_usage { result ≢ Usage }
+    ensures no_refusal { (fault : PolicyFault) → result ≢ PolicyRefused fault }
+    ensures read { result ≡ ReadFault → HasRisen (T.faults script.old) (T.faults script.new) }
+    ensures write { result ≡ WriteFault → HasRisen (K.faults out.old) (K.faults out.new) }
 {
-    // A law, for `least` and `taken`.
-    answers_are_least();
-    if !is_batch(words) {
-        return Exit::Usage;
-    }
-    let Ok(mut session) = Session::new(rt.alloc(), clock.day()) else {
+    let Ok(mut session) = Session::new(alloc, policy, clock.day()) else {
         return Exit::NoMemory;
     };
     match answer_script(&mut session, script, out) {
         Ok(()) => Exit::Done,
         Err(Stop::Read) => Exit::ReadFault,
         Err(Stop::Write) => Exit::WriteFault,
-        Err(Stop::Memory) => Exit::NoMemory,
+    }
+}
+
+/// Does what the words say: `batch` answers the script line by line, by the rules of the policy.
+pub fn run<R: AllocGlobal, S: Source, T: Source, K: Sink, C: Clock>(
+    rt: &R,
+    words: &[String],
+    policy: &mut S,
+    script: &mut T,
+    out: &mut K,
+    clock: &mut C,
+) -> Exit
+    // The words are refused exactly where they aren't `batch` alone, and then nothing is read and nothing written.
+    ensures usage { (result ≡ Usage) ↔ (map string_bytes words.now ≢ codes "batch" ∷ []) }
+    ensures untouched { result ≡ Usage → (policy.new ≡ policy.old) × (script.new ≡ script.old) × (out.new ≡ out.old) }
+
+    // The policy is refused for the fault that its bytes have, and then nothing is read of the script and nothing
+    // written. Where they have one no script is answered. No more is read of them than decides that.
+    ensures refused { (fault : PolicyFault) → result ≡ PolicyRefused fault →
+        IsSaid (S.left policy.old) (Err fault) × (script.new ≡ script.old) × (out.new ≡ out.old) }
+    ensures no_policy { (fault : PolicyFault) → IfSaid (S.left policy.old) (Err fault)
+        (((result ≡ Usage) ⊎ (result ≡ PolicyRefused fault) ⊎ (result ≡ ReadFault) ⊎ (result ≡ NoMemory))
+        × (script.new ≡ script.old) × (out.new ≡ out.old)) }
+    ensures no_memory { result ≢ PolicyRefused faults.NoMemory }
+    ensures bounded { S.budget policy.old ≤ S.budget policy.new + policy_front }
+
+    // Where the words and the policy are good, what is written are the replies of the register that the lines of the
+    // script build under the policy, on a day of the clock.
+    ensures answered { ((result ≢ Done) × (script.new ≡ script.old) × (out.new ≡ out.old))
+        ⊎ ((p : PlainPolicy) × IsPolicy p × IsSaid (S.left policy.old) (Ok p) × (day : ℕ) × C.states clock.old day
+        × IsAnswered p day (K.written out.old) (T.left script.old) result (K.written out.new) (T.left script.new)) }
+
+    // A fault is answered only where the outside failed in this run.
+    ensures read_fault { result ≡ ReadFault →
+        HasRisen (S.faults policy.old) (S.faults policy.new) ⊎ HasRisen (T.faults script.old) (T.faults script.new) }
+    ensures write_fault { result ≡ WriteFault → HasRisen (K.faults out.old) (K.faults out.new) }
+
+    // Under each policy the entries that a script's requests become are a legal list, and its register is theirs.
+    ensures legal { (p : PlainPolicy) (day : ℕ) (lines : List (List ℕ)) → IsPolicy p
+        → IsLegal rooms (accepted_entries (new_session p day) lines) }
+    ensures register { (p : PlainPolicy) (day : ℕ) (lines : List (List ℕ)) →
+        (session_after (new_session p day) lines).register ≡ register_after rooms (accepted_entries (new_session p day) lines) }
+
+    // So no number is lost, doubled or invented: each has the card of the last entry that painted it, and none where none
+    // did; and there are just as many as were received.
+    ensures conserved { (p : PlainPolicy) (day : ℕ) (lines : List (List ℕ)) (n : PlainNumber) → IsPolicy p
+        → card_of (session_after (new_session p day) lines).register.pool n ≡ last_card (accepted_entries (new_session p day) lines) n }
+    ensures sizes { (p : PlainPolicy) (day : ℕ) (lines : List (List ℕ)) (space : Space) → IsPolicy p
+        → size_sum (register_pieces (session_after (new_session p day) lines).register space)
+        ≡ received_size (accepted_entries (new_session p day) lines) space }
+
+    // A delegation takes the least free block, aligned and all of it available, and an overlap is told by the least
+    // number that is taken.
+    ensures least { (p : PlainPolicy) (day : ℕ) (lines : List (List ℕ)) (space : Space) (size : ℕ) → IsPolicy p → 0 < size
+        → IsLeastBlock (register_pieces (session_after (new_session p day) lines).register space) space size
+        (least_block (register_pieces (session_after (new_session p day) lines).register space) space size) }
+    ensures taken { (p : PlainPolicy) (day : ℕ) (lines : List (List ℕ)) (range : PlainRange) → IsPolicy p → IsRange range
+        → IsLeastTaken (register_pieces (session_after (new_session p day) lines).register range.space) range
+        (overlap (register_pieces (session_after (new_session p day) lines).register range.space) range) }
+{
+    // Laws, from `legal` on.
+    accepted_entries_are_legal();
+    scripts_conserve();
+    answers_are_least();
+    if !is_batch(words) {
+        return Exit::Usage;
+    }
+    match read_policy(rt.alloc(), policy) {
+        Ok(policy) => answer_batch(rt.alloc(), policy, script, out, clock),
+        Err(NoPolicy::Read) => Exit::ReadFault,
+        Err(NoPolicy::Refused(fault)) => Exit::PolicyRefused(fault),
+        Err(NoPolicy::Memory) => Exit::NoMemory,
     }
 }
 

@@ -12,7 +12,7 @@ returns-in_err-end_line-clause-err g c =
     let whole : List ℕ → Option (List ℕ) =
     λ tail. with_replies (g.K.Sink.written c.args.out.now) c.args.session.now (c.args.line.now ++ (c.args.piece.now ++ tail)) in
     OnErr_always _ (piece_breaks whole _ _ _ c.lines.line c.in-Some.front.now c.in-Some.behind.now c.lines.rest.now c.extend.new.self
-    c.lines.invariant.kept c.extend.ensures.same c.in-Some.ensures.1 c.in_err-end_line.ensures.err)
+    c.lines.invariant.kept c.extend.ensures c.in-Some.ensures.1 c.in_err-end_line.ensures.err)
 
 pub lines-preserved : goal.lines-preserved
 lines-preserved g c =
@@ -20,14 +20,13 @@ lines-preserved g c =
     λ tail. with_replies (g.K.Sink.written c.args.out.now) c.args.session.now (c.args.line.now ++ (c.args.piece.now ++ tail)) in
     let less = shorter c.in-Some.front.now c.in-Some.behind.now c.lines.rest.now c.in-Some.ensures.1 in
     record {
-      entries = omega (arith, ap length c.in_ok-end_line.ensures.empty);
       faults = omega arith;
       kept = piece_goes_on whole _ _ _ _ c.lines.line c.in-Some.front.now c.in-Some.behind.now c.lines.rest.now c.extend.new.self c.end_line.new.line
-          c.lines.invariant.kept c.extend.ensures.same c.in-Some.ensures.1 c.in_ok-end_line.ensures.ok c.in_ok-end_line.ensures.empty;
+          c.lines.invariant.kept c.extend.ensures c.in-Some.ensures.1 c.in_ok-end_line.ensures.ok c.in_ok-end_line.ensures.empty;
     }
 
 pub returns-clause-ok : goal.returns-clause-ok
 returns-clause-ok g c =
     let whole : List ℕ → Option (List ℕ) =
     λ tail. with_replies (g.K.Sink.written c.args.out.now) c.args.session.now (c.args.line.now ++ (c.args.piece.now ++ tail)) in
-    piece_held whole _ _ c.lines.line c.lines.rest.now c.extend-2.new.self c.lines.invariant.kept c.extend-2.ensures.same
+    piece_held whole _ _ c.lines.line c.lines.rest.now c.extend-2.new.self c.lines.invariant.kept c.extend-2.ensures

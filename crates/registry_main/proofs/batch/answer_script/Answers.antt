@@ -1,13 +1,10 @@
-use Rattle.std.proofs.Common.{take, length, length-take, arith}
+use Rattle.std.proofs.Common.{take, arith}
 use Rattle.std.proofs.KnownBytes.{Keeps-trans}
-use Rattle.registry_main.proofs.Written.{piece_read, piece_broken, script_answered, script_broken, bytes_spent, BeginsWith_kept, OnErr_always}
+use Rattle.registry_main.proofs.Written.{piece_read, piece_broken, script_answered, script_broken, BeginsWith_kept, OnErr_always}
 use Rattle.registry_main.proofs.batch.answer_script.Goals as goal
 
 pub pieces-preserved : goal.pieces-preserved
 pieces-preserved g c = record {
-  bytes = λ _. bytes_spent c.pieces.session.entries (length c.pieces.line) _ c.in-Ok.count _ _ _
-      c.pieces.invariant.bytes c.in-Ok.ensures.bounded c.in-Ok.ensures.budget.1
-      (omega (arith, c.in_ok-answer_lines-in-Ok.ensures.entries, length-take c.in-Ok.count c.read.new.buf));
   reads = omega arith;
   writes = omega arith;
   kept = Keeps-trans _ _ _ c.pieces.invariant.kept

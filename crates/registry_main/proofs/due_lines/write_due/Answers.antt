@@ -1,0 +1,31 @@
+use Rattle.std.proofs.Common.{ℕ, List, length, subst, ap, arith, codes, decimal, ◌++◌}
+use Rattle.link_face.specs.Bytes.{AppendsPrefix}
+use Rattle.quarantine.specs.Due.{due_pieces}
+use Rattle.std.proofs.KnownBytes.{Keeps-trans, append_known-moved}
+use Rattle.desk_lang.specs.ReplyText.{spaced_range}
+use Rattle.registry_main.specs.Session.{piece_lines}
+use Rattle.registry_main.proofs.Written.{front_more, prefix_begins, BeginsWith_kept, OnErr_always}
+use Rattle.registry_main.proofs.due_lines.write_due.Goals as goal
+
+pub returns-in_err-write_count-clause-err : goal.returns-in_err-write_count-clause-err
+returns-in_err-write_count-clause-err g c =
+    let head : List ℕ = codes "due " ++ decimal (length (due_pieces c.args.pieces.now.partition c.args.day)) ++ codes "\n" in
+    let failed : AppendsPrefix (g.K.Sink.written c.args.out.now) (g.K.Sink.written c.write_count.new.out) head =
+    subst (λ (n : ℕ). AppendsPrefix (g.K.Sink.written c.args.out.now) (g.K.Sink.written c.write_count.new.out) (codes "due " ++ decimal n ++ codes "\n"))
+    c.due_count.ensures c.in_err-write_count.ensures.err in
+    OnErr_always _ (front_more _ _ head _ (prefix_begins _ _ head failed))
+
+pub loop-piece-preserved : goal.loop-piece-preserved
+loop-piece-preserved g c = record {
+  next = tt;
+  finite = tt;
+  faults = omega arith;
+  kept = Keeps-trans _ _ _ c.loop-piece.invariant.kept
+      (append_known-moved _ _ (spaced_range c.in-Some.piece.range ++ codes "\n") (piece_lines c.next.new.self) _
+      c.in_ok-write_piece_range.ensures.ok (ap piece_lines c.in-Some.ensures.steps));
+}
+
+pub returns-in_err-write_piece_range-clause-err : goal.returns-in_err-write_piece_range-clause-err
+returns-in_err-write_piece_range-clause-err g c =
+    OnErr_always _ (BeginsWith_kept _ _ _ c.loop-piece.invariant.kept
+    (rw c.in-Some.ensures.steps (front_more _ _ _ _ (prefix_begins _ _ _ c.in_err-write_piece_range.ensures.err))))
