@@ -159,3 +159,70 @@ fn requests_of_an_empty_register(rt: HostRuntime) -> Result<(), Fail> {
     }
     Ok(())
 }
+
+/// Why the request is refused, or nothing where it is accepted and taken in.
+fn taken(board: &mut Board, policy: &Policy, who: &Name, request: &Request) -> Option<Refusal> {
+    if !is_of_pieces_or_holders(request) {
+        return Some(Refusal::NoSub);
+    }
+    match decide(board, policy, TODAY, who, request) {
+        Reply::Accepted(entry) => {
+            board.apply(&entry);
+            None
+        }
+        Reply::Refused(refusal) => Some(refusal),
+    }
+}
+
+fn added(handle: &[u8]) -> Option<Request> {
+    let holder = holder_of(&Handle::read(handle)?)?;
+    Some(Request::AddHolder { holder })
+}
+
+fn delegated(amount: u32) -> Option<Request> {
+    Some(Request::Delegate {
+        space: Space::Ipv4,
+        amount,
+        status: Delegation::Allocate,
+        handle: Handle::read(b"ORG-A")?,
+    })
+}
+
+/// What fills a register of two pieces, one holder and four entries, and what then has no room.
+fn filling() -> Option<[(Request, Option<Refusal>); 8]> {
+    let range = Range::new(Space::Ipv4, 0xc000_0200, 0xc000_02ff)?;
+    let full = Refusal::RegisterFull { pieces: 3, room: 2 };
+    Some([
+        (Request::Receive { range }, None),
+        (added(b"ORG-A")?, None),
+        (added(b"ORG-B")?, Some(Refusal::HoldersFull { room: 1 })),
+        (delegated(25)?, None),
+        (delegated(26)?, Some(full)),
+        (delegated(25)?, None),
+        (delegated(25)?, Some(Refusal::NoBlock)),
+        (
+            Request::EditHolder {
+                holder: holder_of(&Handle::read(b"ORG-A")?)?,
+            },
+            Some(Refusal::JournalFull { entries: 4 }),
+        ),
+    ])
+}
+
+#[test]
+fn requests_that_have_no_room(rt: HostRuntime) -> Result<(), Fail> {
+    let rooms = Rooms {
+        pieces: 2,
+        holders: 1,
+        entries: 4,
+        ..ROOMS
+    };
+    let mut board = Board::with_room(rt.alloc(), rooms)?;
+    let policy = Policy::read(rt.alloc(), POLICY.as_bytes())?;
+    let local = Name::read(b"local").ok_or("a name")?;
+    let rows = filling().ok_or("requests")?;
+    for (request, refusal) in rows.iter() {
+        assert_eq!(rt; taken(&mut board, &policy, &local, request), *refusal);
+    }
+    Ok(())
+}
