@@ -19,7 +19,7 @@ use Rattle.desk_lang.specs.declared.line.Line.{Line}
 use Rattle.desk_lang.specs.declared.line.Line.TheVariants.{Request, Show, Due, Day, By, Nothing}
 use Rattle.desk_lang.specs.declared.rest.Malformed.{Malformed}
 use Rattle.desk_lang.specs.Grammar.{line_of, IsValidLine}
-use Rattle.registry_main.specs.Session.{PlainSession, with_register, on_day, by_name, decided, after_reply, step_of, answered, session_after, entries_of_reply, entries_of_line, accepted_entries}
+use Rattle.registry_main.specs.Session.{PlainSession, with_register, on_day, by_name, decided, after_reply, step_of, session_after, entries_of_reply, entries_of_line, accepted_entries}
 
 -- ---- the register
 

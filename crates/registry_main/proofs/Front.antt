@@ -1,5 +1,5 @@
 -- The front that is read of a policy says what all of its bytes say.
-use Rattle.std.proofs.Common.{◌≡◌, ℕ, ◌+◌, ◌<◌, ◌≤◌, false, List, [], ◌++◌, length, take, Option, None, Some, Result, Ok, Err, refl, sym, ◌∙◌, ap, subst, arith, inl, inr, append-nil, take_all, length-take}
+use Rattle.std.proofs.Common.{◌≡◌, ℕ, ◌<◌, ◌≤◌, false, List, [], ◌++◌, length, take, Option, None, Some, Result, Ok, Err, refl, sym, ◌∙◌, ap, arith, inl, inr, append-nil, take_all, length-take}
 use Rattle.std.specs.Prelude.{nat_le}
 use Rattle.std.specs.Result.{IfOk}
 use Rattle.std.specs.Io.KnownBytes.{Consumes, IsAtEnd}
@@ -10,7 +10,7 @@ use Rattle.reg_entry.specs.Policy.{PlainPolicy}
 use Rattle.policy_table.specs.declared.fault.PolicyFault.{PolicyFault}
 use Rattle.policy_table.specs.declared.fault.PolicyFault.TheVariants.{TooLong}
 use Rattle.policy_table.specs.Policy.{policy_of}
-use Rattle.registry_main.specs.PolicyBytes.{policy_front, IsFrontOf, IsSaid, IfSaid}
+use Rattle.registry_main.specs.PolicyBytes.{IsFrontOf, IsSaid, IfSaid}
 
 -- ---- how far was read
 

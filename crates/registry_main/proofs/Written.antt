@@ -1,5 +1,5 @@
 -- What is written, followed over the lines of a script, where the bytes are known.
-use Rattle.std.proofs.Common.{◌≡◌, ℕ, ◌+◌, ◌<◌, ◌≤◌, ◌^◌, length, arith, List, [], ◌∷◌, ◌++◌, Option, None, Some, take, drop, take-append-drop, refl, sym, ◌∙◌, ap, subst, append_assoc, append-nil, Result, Ok, Err, inl, inr}
+use Rattle.std.proofs.Common.{◌≡◌, ℕ, ◌<◌, length, arith, List, [], ◌∷◌, ◌++◌, Option, None, Some, take, drop, take-append-drop, refl, sym, ◌∙◌, ap, subst, append_assoc, append-nil, Result, Ok, Err}
 use Rattle.std.specs.Result.{OnOk, OnErr}
 use Rattle.std.specs.Str.Lines.{strip_carriage_return}
 use Rattle.std.specs.Io.KnownBytes.{append_known, Appends, Keeps, Consumes, IsAtEnd}
@@ -9,7 +9,7 @@ use Rattle.reg_entry.specs.Policy.{PlainPolicy}
 use Rattle.registry_main.specs.LineBuffer.{HasNoNewline, IsAnsweredAs}
 use Rattle.registry_main.proofs.FirstLine.{replies_to-line, replies_to-last}
 use Rattle.std.proofs.KnownBytes.{Keeps-trans}
-use Rattle.std.proofs.lemmas.Bool.{cases_lt, eqb-true}
+use Rattle.std.proofs.lemmas.Bool.{eqb-true}
 use Rattle.std.specs.Prelude.{◌==◌, MatchOption, Bool, true, false, if◌then◌else◌}
 use Rattle.std.specs.Option.{option_map}
 use Rattle.addr_text.specs.Reading.{parted_at}

@@ -1,5 +1,5 @@
 -- What the bytes of a policy say, where they are known.
-use Rattle.std.specs.Prelude.{◌≡◌, ℕ, List, ⊤, Option, None, Some, Result, Ok, Err, take}
+use Rattle.std.specs.Prelude.{◌≡◌, ℕ, List, ⊤, Option, None, Some, Result, take}
 use Rattle.reg_entry.specs.Policy.{PlainPolicy}
 use Rattle.policy_table.specs.declared.fault.PolicyFault.{PolicyFault}
 use Rattle.policy_table.specs.Policy.{policy_of}
