@@ -14,14 +14,14 @@ use num_range::{Number, Range};
 use reg_entry::{Handle, Piece, Refusal, Status};
 
 /// The refusal, where the condition holds.
-pub(crate) fn refuse_if(condition: bool, refusal: Refusal) -> Option<Refusal>
+pub fn refuse_if(condition: bool, refusal: Refusal) -> Option<Refusal>
     ensures { result ≡ refuse_if condition refusal }
 {
     if condition { Some(refusal) } else { None }
 }
 
 /// The first number of a range.
-pub(crate) fn first_number(range: &Range) -> Number
+pub fn first_number(range: &Range) -> Number
     ensures { result ≡ first_number range.now }
 {
     Number::of(range.space(), range.first())

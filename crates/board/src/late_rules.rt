@@ -45,8 +45,8 @@ impl Board {
         }
     }
 
-    #[tactic(auto, using(crate::proofs::Splitting::count_split))]
     /// How many pieces there would be once the piece that holds the number was split before it.
+    #[tactic(auto, using(crate::proofs::Splitting::count_split))]
     fn split_count(&self, at: Number) -> u32
         ensures { result ≡ piece_count (reshaped (Split at) self.now.pool) }
     {

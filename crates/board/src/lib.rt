@@ -15,4 +15,5 @@ mod tests;
 
 pub use amounts::{amount_size, has_size};
 pub use board::Board;
+pub use conditions::{first_number, refuse_if};
 pub use kinds::is_of_pieces_or_holders;

@@ -41,8 +41,8 @@ pub(crate) fn outside_unicast(range: &Range) -> Option<Refusal>
 }
 
 impl Board {
-    #[tactic(auto, using(crate::proofs::Missing::missing_behind, crate::proofs::Missing::missing_here, crate::proofs::Missing::missing_past))]
     /// The least number of the range that no piece holds. Only the pieces that the range meets are looked at.
+    #[tactic(auto, using(crate::proofs::Missing::missing_behind, crate::proofs::Missing::missing_here, crate::proofs::Missing::missing_past))]
     fn least_missing(&self, range: &Range) -> Option<u128>
         ensures value { result ≡ least_missing (register_pieces self.now range.now.space) range.now.first range.now.last }
         ensures within { IfSome result (λ value. value ≤ top_of range.now.space) }

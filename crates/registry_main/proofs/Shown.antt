@@ -1,11 +1,10 @@
 -- The days that are shown of a whole register can be written, and its cards' holders are there.
-use Rattle.std.proofs.Common.{◌≡◌, ℕ, ◌<◌, ◌≤◌, Bool, true, false, cond, List, [], ◌∷◌, length, Option, None, Some, IfSome, refl, sym, subst, arith}
+use Rattle.std.proofs.Common.{◌≡◌, ℕ, ◌<◌, ◌≤◌, Bool, true, false, cond, List, [], ◌∷◌, length, Option, None, Some, IfSome, refl, sym, arith}
 use Rattle.std.specs.Prelude.{◌+◌, ◌*◌, ◌/◌, not, ◌&&◌, ◌==◌, nat_eq, nat_lt}
 use Rattle.std.specs.Option.{option_or, option_map, option_and_then, option_eq}
 use Rattle.num_range.specs.Number.{PlainNumber}
 use Rattle.num_range.specs.Range.{PlainRange}
 use Rattle.reg_entry.specs.declared.card.Card.{Card}
-use Rattle.reg_entry.specs.declared.entry.Reply.TheVariants.{Accepted}
 use Rattle.reg_entry.specs.declared.piece.Piece.{Piece}
 use Rattle.reg_entry.specs.declared.refusal.Refusal.{Refusal}
 use Rattle.reg_entry.specs.declared.refusal.Refusal.TheVariants.{NotOnePiece, WrongStatus, NotHolder, CardsDiffer, HolderKind, OverCap, UnderUsed, HoldTime, NotDue}
@@ -27,7 +26,6 @@ use Rattle.reg_entry.specs.Policy.{PlainPolicy, policy_row, lists_kind}
 use Rattle.reg_entry.specs.Register.{Register, register_pieces, piece_of}
 use Rattle.reg_entry.specs.Whole.{IsCardIn, IsWholeRegister}
 use Rattle.board.proofs.Known.{card_in, card_holder}
-use Rattle.board.specs.Kinds.{is_of_pieces_or_holders}
 use Rattle.desk_lang.specs.ReplyText.{RefusalHasDate, ReplyHasDate}
 
 -- ---- pieces
@@ -247,16 +245,3 @@ decision_date r p day who request whole =
     (or_dates _ _ (refused _ _ tt)
     (or_dates _ _ (first_dates _ (early_dates r request))
     (or_dates _ _ (first_dates _ (policy_dates r p request)) (first_dates _ (late_dates r request e.day e.cover e.card whole)))))
-
--- ---- accepted requests
-
-entry_of_reply : (o : Option Refusal) (e f : PlainEntry) → reply_of o e ≡ Accepted f → e ≡ f
-entry_of_reply None e f h = cc
-entry_of_reply (Some x) e f h = cc
-
--- an entry that is accepted is of the kind of its request
-pub accepted_kind : (r : Register) (p : PlainPolicy) (day : ℕ) (who : List ℕ) (request : Request) (e : PlainEntry)
-    → is_of_pieces_or_holders request ≡ true → decision r p day who request ≡ Accepted e → is_of_pieces_or_holders e.request ≡ true
-accepted_kind r p day who request e kind h =
-    let same = entry_of_reply (refusal_of r p day who request) (proposed_entry r p day who request) e h in
-    subst (λ (f : PlainEntry). is_of_pieces_or_holders f.request ≡ true) same kind

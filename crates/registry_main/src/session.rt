@@ -94,7 +94,6 @@ impl Session {
     }
 
     /// Decides a request, and takes in the entry that it becomes.
-    #[tactic(auto, using(crate::proofs::Shown::accepted_kind))]
     fn decide(&mut self, request: &Request) -> Reply
         ensures reply { result ≡ decided self.old request.now }
         ensures session { self.new ≡ after_reply self.old result }

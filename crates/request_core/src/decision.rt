@@ -49,6 +49,7 @@ pub fn decide(board: &Board, policy: &Policy, day: u32, who: &Name, request: &Re
     ensures accepted { refusal_of board.now policy.now day who.now request.now ≡ None
         → result ≡ Accepted (proposed_entry board.now policy.now day who.now request.now) }
     ensures next { IfAccepted result (IsNextEntry board.now) }
+    ensures same_kind { IfAccepted result (λ e. is_of_pieces_or_holders e.request ≡ true) }
 {
     if let Some(refusal) = first_refusal(board, policy, who, request) {
         return Reply::Refused(refusal);

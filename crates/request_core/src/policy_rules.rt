@@ -6,21 +6,14 @@ ghost use Rattle.reg_entry.specs.Holders.{holder_named};
 ghost use Rattle.reg_entry.specs.Policy.{PlainRows, row_in, policy_row, lists_kind, IsRowOf};
 ghost use Rattle.reg_entry.specs.Register.{piece_of};
 ghost use Rattle.reg_entry.specs.Request.{has_size, status_of};
-ghost use Rattle.reg_entry.specs.Decision.{first_of, on_piece, refuse_if, amount_out_of_policy, kind_left_out, over_cap, under_used, delegate_rules, transferred_size, transfer_rules, policy_rules};
+ghost use Rattle.reg_entry.specs.Decision.{first_of, on_piece, amount_out_of_policy, kind_left_out, over_cap, under_used, delegate_rules, transferred_size, transfer_rules, policy_rules};
 ghost use Rattle.request_core.specs.Sized.{IsSizedRequest};
 
-use board::{Board, amount_size};
-use num_range::{Number, Range, Space};
+use board::{Board, amount_size, first_number, refuse_if};
+use num_range::{Range, Space};
 use policy_table::Policy;
 use reg_entry::{Delegation, Handle, Holder, Kind, Piece, Refusal, Request, Row, Status};
 use reg_laws::holdings::holdings_are_bounded;
-
-/// The refusal, where the condition holds.
-fn refuse_if(condition: bool, refusal: Refusal) -> Option<Refusal>
-    ensures { result ≡ refuse_if condition refusal }
-{
-    if condition { Some(refusal) } else { None }
-}
 
 fn amount_out_of_policy(row: &Row, amount: u32) -> Option<Refusal>
     ensures refusal { result ≡ amount_out_of_policy row.now amount }
@@ -122,13 +115,6 @@ fn row_refusal(
         Delegation::Allocate => refusal.or(under_used(board, row, space, handle)),
         Delegation::Assign => refusal,
     }
-}
-
-/// The first number of a range.
-fn first_number(range: &Range) -> Number
-    ensures { result ≡ first_number range.now }
-{
-    Number::of(range.space(), range.first())
 }
 
 /// The kind of delegation whose row is that of a piece's status.

@@ -162,11 +162,12 @@ fn requests_of_an_empty_register(rt: HostRuntime) -> Result<(), Fail> {
 
 /// Why the request is refused, or nothing where it is accepted and taken in.
 fn taken(board: &mut Board, policy: &Policy, who: &Name, request: &Request) -> Option<Refusal> {
-    match answer(board, policy, TODAY, who, request)? {
+    if !is_of_pieces_or_holders(request) {
+        return Some(Refusal::NoSub);
+    }
+    match decide(board, policy, TODAY, who, request) {
         Reply::Accepted(entry) => {
-            if is_of_pieces_or_holders(&entry.request) && board.is_next(&entry) {
-                board.apply(&entry);
-            }
+            board.apply(&entry);
             None
         }
         Reply::Refused(refusal) => Some(refusal),
