@@ -1,4 +1,5 @@
-//! A register's morning, driven by what may come next. The ranges are of 192.0.2.0/24 (RFC 5737), by their last octets.
+//! Registers that entries build one by one, each of them only where it may come next. The ranges are of 192.0.2.0/24
+//! (RFC 5737), by their last octets.
 use crate::{Board, is_of_pieces_or_holders};
 use num_range::{Number, Range, Space};
 use reg_entry::{
@@ -6,8 +7,10 @@ use reg_entry::{
 };
 use std::test::Fail;
 
-/// 2024-03-01, and the day when a quarantine of 30 days ends.
+/// 2024-03-01, a day a year before it, and the day when a quarantine of 30 days ends.
 const DAY: u32 = 19783;
+
+const EARLIER: u32 = 19417;
 
 const DUE: u32 = 19813;
 
@@ -24,6 +27,15 @@ const ROOMS: Rooms = Rooms {
     entries: 40,
     window: 1,
 };
+
+/// An entry, but for its number and who asked.
+#[derive(Clone, Copy)]
+struct Step {
+    day: u32,
+    request: Request,
+    cover: Option<Range>,
+    card: Option<Card>,
+}
 
 fn range(first: u128, last: u128) -> Option<Range> {
     if first > 255 || last > 255 {
@@ -58,24 +70,146 @@ fn card(status: Status, holder: Option<u32>, day: u32, until: u32) -> Option<Car
     })
 }
 
+fn received(first: u128, last: u128) -> Option<Step> {
+    Some(Step {
+        day: DAY,
+        request: Request::Receive {
+            range: range(first, last)?,
+        },
+        cover: range(first, last),
+        card: Some(Card::plain()),
+    })
+}
+
+/// A holder is added, or the one of this handle has another name.
+fn added(handle: &[u8], name: &[u8]) -> Option<Step> {
+    Some(Step {
+        day: DAY,
+        request: Request::AddHolder {
+            holder: holder(handle, name)?,
+        },
+        cover: None,
+        card: None,
+    })
+}
+
+fn edited(handle: &[u8], name: &[u8]) -> Option<Step> {
+    Some(Step {
+        day: DAY,
+        request: Request::EditHolder {
+            holder: holder(handle, name)?,
+        },
+        cover: None,
+        card: None,
+    })
+}
+
+/// A range is kept back, or no longer.
+fn reserved(first: u128, last: u128) -> Option<Step> {
+    Some(Step {
+        day: DAY,
+        request: Request::Reserve {
+            range: range(first, last)?,
+        },
+        cover: range(first, last),
+        card: card(Status::Reserved, None, DAY, 0),
+    })
+}
+
+fn unreserved(first: u128, last: u128) -> Option<Step> {
+    Some(Step {
+        day: DAY,
+        request: Request::Unreserve {
+            range: range(first, last)?,
+        },
+        cover: range(first, last),
+        card: Some(Card::plain()),
+    })
+}
+
+/// A block is delegated to ORG-A, from the octet on.
+fn delegated(day: u32, amount: u32, first: u128, last: u128) -> Option<Step> {
+    Some(Step {
+        day,
+        request: Request::Delegate {
+            space: Space::Ipv4,
+            amount,
+            status: Delegation::Allocate,
+            handle: Handle::read(b"ORG-A")?,
+        },
+        cover: range(first, last),
+        card: card(Status::Allocated, Some(0), day, 0),
+    })
+}
+
+fn returned(first: u128, last: u128, until: u32) -> Option<Step> {
+    Some(Step {
+        day: DAY,
+        request: Request::Return {
+            range: range(first, last)?,
+            handle: Handle::read(b"ORG-A")?,
+        },
+        cover: range(first, last),
+        card: card(Status::Quarantine, None, DAY, until),
+    })
+}
+
+fn released(day: u32, first: u128, last: u128) -> Option<Step> {
+    Some(Step {
+        day,
+        request: Request::Release {
+            range: range(first, last)?,
+        },
+        cover: range(first, last),
+        card: Some(Card::plain()),
+    })
+}
+
+/// The piece of the first 128 numbers is split before the octet, or its two pieces are joined there.
+fn split(at: u128) -> Option<Step> {
+    Some(Step {
+        day: DAY,
+        request: Request::Split { at: number(at)? },
+        cover: range(0, 127),
+        card: None,
+    })
+}
+
+fn joined(at: u128) -> Option<Step> {
+    Some(Step {
+        day: DAY,
+        request: Request::Join { at: number(at)? },
+        cover: range(0, 127),
+        card: None,
+    })
+}
+
+/// The first 64 numbers go from one holder to the other, which has the number.
+fn transferred(day: u32, from: &[u8], to: &[u8], holder: u32, until: u32) -> Option<Step> {
+    Some(Step {
+        day,
+        request: Request::Transfer {
+            range: range(0, 63)?,
+            from: Handle::read(from)?,
+            to: Handle::read(to)?,
+        },
+        cover: range(0, 63),
+        card: card(Status::Allocated, Some(holder), day, until),
+    })
+}
+
 /// Takes an entry in where it may come next, and says whether it was.
-fn taken(
-    board: &mut Board,
-    day: u32,
-    request: &Request,
-    cover: Option<Range>,
-    card: Option<Card>,
-) -> Option<bool> {
-    if !is_of_pieces_or_holders(request) {
+fn taken(board: &mut Board, step: &Step) -> Option<bool> {
+    if !is_of_pieces_or_holders(&step.request) {
         return None;
     }
     let entry = Entry {
         seq: board.entries() + 1,
-        day,
+        day: step.day,
         who: Name::read(b"local")?,
-        request: *request,
-        cover,
-        card,
+        request: step.request,
+        cover: step.cover,
+        card: step.card,
     };
     if !board.is_next(&entry) {
         return Some(false);
@@ -84,170 +218,137 @@ fn taken(
     Some(true)
 }
 
-/// A network that is received, and two holders.
-fn begun(board: &mut Board) -> Option<bool> {
-    let request = Request::Receive {
-        range: range(0, 255)?,
-    };
-    let received = taken(board, DAY, &request, range(0, 255), Some(Card::plain()))?;
-    let first = added(board, b"ORG-A", b"Alpha Net")?;
-    let second = added(board, b"ORG-B", b"Beta Net")?;
-    Some(received && first && second)
-}
-
-/// Keeps a range back, or no longer.
-fn reserved(board: &mut Board, first: u128, last: u128) -> Option<bool> {
-    let request = Request::Reserve {
-        range: range(first, last)?,
-    };
-    taken(
-        board,
-        DAY,
-        &request,
-        range(first, last),
-        card(Status::Reserved, None, DAY, 0),
-    )
-}
-
-fn unreserved(board: &mut Board, first: u128, last: u128) -> Option<bool> {
-    let request = Request::Unreserve {
-        range: range(first, last)?,
-    };
-    taken(
-        board,
-        DAY,
-        &request,
-        range(first, last),
-        Some(Card::plain()),
-    )
-}
-
-/// Adds a holder, or gives the one of this handle another name.
-fn added(board: &mut Board, handle: &[u8], name: &[u8]) -> Option<bool> {
-    let request = Request::AddHolder {
-        holder: holder(handle, name)?,
-    };
-    taken(board, DAY, &request, None, None)
-}
-
-fn edited(board: &mut Board, handle: &[u8], name: &[u8]) -> Option<bool> {
-    let request = Request::EditHolder {
-        holder: holder(handle, name)?,
-    };
-    taken(board, DAY, &request, None, None)
-}
-
-/// Splits the half of the network before the octet, or joins its two pieces there.
-fn split(board: &mut Board, at: u128) -> Option<bool> {
-    let request = Request::Split { at: number(at)? };
-    taken(board, DAY, &request, range(0, 127), None)
-}
-
-fn joined(board: &mut Board, at: u128) -> Option<bool> {
-    let request = Request::Join { at: number(at)? };
-    taken(board, DAY, &request, range(0, 127), None)
-}
-
-/// Delegates a block to ORG-A, from the octet on.
-fn delegated(board: &mut Board, day: u32, amount: u32, first: u128, last: u128) -> Option<bool> {
-    let request = Request::Delegate {
-        space: Space::Ipv4,
-        amount,
-        status: Delegation::Allocate,
-        handle: Handle::read(b"ORG-A")?,
-    };
-    taken(
-        board,
-        day,
-        &request,
-        range(first, last),
-        card(Status::Allocated, Some(0), day, 0),
-    )
-}
-
-fn returned(board: &mut Board, first: u128, last: u128, until: u32) -> Option<bool> {
-    let request = Request::Return {
-        range: range(first, last)?,
-        handle: Handle::read(b"ORG-A")?,
-    };
-    taken(
-        board,
-        DAY,
-        &request,
-        range(first, last),
-        card(Status::Quarantine, None, DAY, until),
-    )
-}
-
-fn released(board: &mut Board, day: u32, first: u128, last: u128) -> Option<bool> {
-    let request = Request::Release {
-        range: range(first, last)?,
-    };
-    taken(
-        board,
-        day,
-        &request,
-        range(first, last),
-        Some(Card::plain()),
-    )
-}
-
-fn transferred(
-    board: &mut Board,
-    day: u32,
-    from: &[u8],
-    to: &[u8],
-    holder: u32,
-    until: u32,
-) -> Option<bool> {
-    let request = Request::Transfer {
-        range: range(0, 63)?,
-        from: Handle::read(from)?,
-        to: Handle::read(to)?,
-    };
-    taken(
-        board,
-        day,
-        &request,
-        range(0, 63),
-        card(Status::Allocated, Some(holder), day, until),
-    )
-}
-
-/// Whether the piece that holds the octet goes from the one to the other, with the status.
-fn stands(board: &Board, octet: u128, first: u128, last: u128, status: Status) -> bool {
-    match (number(octet), range(first, last)) {
-        (Some(number), Some(range)) => match board.pieces().piece_at(number) {
-            Some(piece) => piece.range == range && piece.card.status == status,
-            None => false,
-        },
-        _ => false,
+/// The first step for which it isn't as the row says whether it is taken, counted from 0.
+fn first_wrong(board: &mut Board, rows: &[(Step, bool)]) -> Option<usize> {
+    for (i, (step, is_taken)) in rows.iter().enumerate() {
+        if taken(board, step) != Some(*is_taken) {
+            return Some(i);
+        }
     }
+    None
+}
+
+/// A network comes in, and the first holder, which is number 0.
+fn begun() -> Option<[(Step, bool); 2]> {
+    Some([
+        (received(0, 255)?, true),
+        (added(b"ORG-A", b"Alpha Net")?, true),
+    ])
+}
+
+/// One address is kept back, so that no aligned block of 64 is free from it on but those of the upper half. What was
+/// returned is kept back too, up to the day that its entry says.
+fn blocks() -> Option<[(Step, bool); 16]> {
+    Some([
+        (delegated(DAY, 26, 0, 63)?, true),
+        (reserved(64, 64)?, true),
+        (delegated(DAY, 26, 64, 127)?, false),
+        (delegated(DAY, 26, 65, 128)?, false),
+        (delegated(DAY, 26, 128, 190)?, false),
+        (delegated(DAY, 26, 128, 191)?, true),
+        (delegated(DAY, 26, 192, 255)?, true),
+        (delegated(DAY, 26, 64, 127)?, false),
+        (returned(0, 63, DAY - 1)?, false),
+        (returned(0, 62, DUE)?, false),
+        (returned(0, 63, DUE)?, true),
+        (delegated(DAY, 26, 0, 63)?, false),
+        (released(DUE - 1, 0, 63)?, false),
+        (released(DUE, 0, 63)?, true),
+        // No entry is older than the one before it.
+        (delegated(DUE - 1, 26, 0, 63)?, false),
+        (delegated(DUE, 26, 0, 63)?, true),
+    ])
+}
+
+/// What is released joins what is available on either side.
+fn releases() -> Option<[(Step, bool); 5]> {
+    Some([
+        (reserved(0, 63)?, true),
+        (delegated(DAY, 26, 64, 127)?, true),
+        (unreserved(0, 63)?, true),
+        (returned(64, 127, DUE)?, true),
+        (released(DUE, 64, 127)?, true),
+    ])
+}
+
+fn all_at_once() -> Option<[(Step, bool); 2]> {
+    Some([
+        (delegated(DAY, 23, 0, 255)?, false),
+        (delegated(DAY, 24, 0, 255)?, true),
+    ])
+}
+
+fn splits() -> Option<[(Step, bool); 4]> {
+    Some([
+        (delegated(DAY, 25, 0, 127)?, true),
+        (joined(64)?, false),
+        (split(64)?, true),
+        (split(64)?, false),
+    ])
+}
+
+/// A transferred piece is held for the time that its entry says, whatever day it is said to be.
+fn transfers() -> Option<[(Step, bool); 7]> {
+    Some([
+        (added(b"ORG-B", b"Beta Net")?, true),
+        (delegated(DAY, 26, 0, 63)?, true),
+        (transferred(DAY, b"ORG-B", b"ORG-A", 0, HELD)?, false),
+        (transferred(DAY, b"ORG-A", b"ORG-B", 1, HELD)?, true),
+        (transferred(DAY, b"ORG-B", b"ORG-A", 0, HELD)?, false),
+        (transferred(EARLIER, b"ORG-B", b"ORG-A", 0, HELD)?, false),
+        (transferred(HELD - 1, b"ORG-B", b"ORG-A", 0, HELD)?, false),
+    ])
+}
+
+/// What fills a register of two pieces, two holders and six entries. The edit of a holder needs no room but an entry's.
+fn filling() -> Option<[(Step, bool); 10]> {
+    Some([
+        (added(b"ORG-B", b"Beta Net")?, true),
+        (added(b"ORG-C", b"Gamma Net")?, false),
+        (edited(b"ORG-C", b"Gamma Net")?, false),
+        (added(b"ORG-A", b"Alpha")?, false),
+        (edited(b"ORG-A", b"Alpha")?, true),
+        // A third piece has no room, and the other half as a whole needs none.
+        (delegated(DAY, 25, 0, 127)?, true),
+        (delegated(DAY, 26, 128, 191)?, false),
+        (delegated(DAY, 25, 128, 255)?, true),
+        // The journal is full.
+        (returned(0, 127, DUE)?, false),
+        (edited(b"ORG-A", b"Alpha Net")?, false),
+    ])
+}
+
+/// The register after the steps, behind those with which each begins, and the first that isn't as its row says.
+fn after(
+    rt: &HostRuntime,
+    rooms: Rooms,
+    rows: &[(Step, bool)],
+) -> Result<(Board, Option<usize>), Fail> {
+    let mut board = Board::with_room(rt.alloc(), rooms)?;
+    let first = begun().ok_or("steps")?;
+    let wrong = first_wrong(&mut board, &first).or(first_wrong(&mut board, rows));
+    Ok((board, wrong))
+}
+
+/// The octets between which the piece lies that holds this one, and its status.
+fn piece_at(board: &Board, octet: u128) -> Option<(u128, u128, Status)> {
+    let piece = board.pieces().piece_at(number(octet)?)?;
+    Some((
+        piece.range.first().checked_sub(NET)?,
+        piece.range.last().checked_sub(NET)?,
+        piece.card.status,
+    ))
 }
 
 #[test]
 fn blocks_are_taken_returned_and_released(rt: HostRuntime) -> Result<(), Fail> {
-    let mut board = Board::with_room(rt.alloc(), ROOMS)?;
-    assert_eq!(rt; (board.first_day(), board.last_day()), (0, 0));
-    assert_eq!(rt; begun(&mut board), Some(true));
-    assert_eq!(rt; delegated(&mut board, DAY, 26, 0, 63), Some(true));
-
-    // One address is kept back, so that no aligned block is free from it on but the upper half.
-    assert_eq!(rt; reserved(&mut board, 64, 64), Some(true));
-    for (first, last, is_taken) in [
-        (64, 127, false),
-        (65, 128, false),
-        (128, 190, false),
-        (128, 191, true),
-        (192, 255, true),
-        (64, 127, false),
-    ] {
-        assert_eq!(rt;
-            delegated(&mut board, DAY, 26, first, last),
-            Some(is_taken),
-            "from {first}"
-        );
-    }
+    let rows = blocks().ok_or("steps")?;
+    let (board, wrong) = after(&rt, ROOMS, &rows)?;
+    assert_eq!(rt; wrong, None);
+    assert_eq!(rt;
+        (board.first_day(), board.last_day(), board.entries()),
+        (DAY, DUE, 9)
+    );
     assert_eq!(rt;
         (board.held(0, Space::Ipv4), board.allocated(0, Space::Ipv4)),
         (192, 192)
@@ -257,75 +358,42 @@ fn blocks_are_taken_returned_and_released(rt: HostRuntime) -> Result<(), Fail> {
         (0, 0)
     );
 
-    // The until is the entry's own, from its day on.
-    assert_eq!(rt; returned(&mut board, 0, 63, DAY - 1), Some(false));
-    assert_eq!(rt; returned(&mut board, 0, 62, DUE), Some(false));
-    assert_eq!(rt; returned(&mut board, 0, 63, DUE), Some(true));
-    assert_eq!(rt; board.held(0, Space::Ipv4), 128);
-    assert_eq!(rt; released(&mut board, DUE - 1, 0, 63), Some(false));
-    assert_eq!(rt; released(&mut board, DUE, 0, 63), Some(true));
-    assert!(rt; stands(&board, 5, 0, 63, Status::Available));
+    let rows = releases().ok_or("steps")?;
+    let (board, wrong) = after(&rt, ROOMS, &rows)?;
+    assert_eq!(rt; wrong, None);
+    assert_eq!(rt; piece_at(&board, 64), Some((0, 255, Status::Available)));
 
-    // No entry is older than the one before it.
-    assert_eq!(rt; delegated(&mut board, DUE - 1, 26, 0, 63), Some(false));
-    assert_eq!(rt; delegated(&mut board, DUE, 26, 0, 63), Some(true));
-    assert_eq!(rt;
-        (board.first_day(), board.last_day(), board.entries()),
-        (DAY, DUE, 10)
-    );
-    assert_eq!(rt; board.held(0, Space::Ipv4), 192);
+    let rows = all_at_once().ok_or("steps")?;
+    let (board, wrong) = after(&rt, ROOMS, &rows)?;
+    assert_eq!(rt; wrong, None);
+    assert_eq!(rt; piece_at(&board, 255), Some((0, 255, Status::Allocated)));
     Ok(())
 }
 
 #[test]
-fn pieces_are_joined_split_and_transferred(rt: HostRuntime) -> Result<(), Fail> {
-    let mut board = Board::with_room(rt.alloc(), ROOMS)?;
-    assert_eq!(rt; begun(&mut board), Some(true));
-
-    // What is released joins what is available on either side.
-    assert_eq!(rt; reserved(&mut board, 0, 63), Some(true));
-    assert_eq!(rt; delegated(&mut board, DAY, 26, 64, 127), Some(true));
-    assert_eq!(rt; unreserved(&mut board, 0, 63), Some(true));
-    assert_eq!(rt; returned(&mut board, 64, 127, DAY), Some(true));
-    assert_eq!(rt; released(&mut board, DAY, 64, 127), Some(true));
-    assert!(rt; stands(&board, 64, 0, 255, Status::Available));
-    assert_eq!(rt; board.pieces().pieces(), 1);
-
+fn pieces_are_split_joined_and_transferred(rt: HostRuntime) -> Result<(), Fail> {
     // A split and a join leave each card as it is.
-    assert_eq!(rt; delegated(&mut board, DAY, 25, 0, 127), Some(true));
-    assert_eq!(rt; joined(&mut board, 64), Some(false));
-    assert_eq!(rt; split(&mut board, 64), Some(true));
-    assert!(rt; stands(&board, 63, 0, 63, Status::Allocated));
-    assert!(rt; stands(&board, 64, 64, 127, Status::Allocated));
-    assert_eq!(rt; joined(&mut board, 64), Some(true));
-    assert!(rt; stands(&board, 64, 0, 127, Status::Allocated));
-    assert_eq!(rt; board.held(0, Space::Ipv4), 128);
+    let rows = splits().ok_or("steps")?;
+    let (mut board, wrong) = after(&rt, ROOMS, &rows)?;
+    assert_eq!(rt; wrong, None);
+    assert_eq!(rt; piece_at(&board, 63), Some((0, 63, Status::Allocated)));
+    assert_eq!(rt; piece_at(&board, 64), Some((64, 127, Status::Allocated)));
+    let join = joined(64).ok_or("a step")?;
+    assert_eq!(rt; taken(&mut board, &join), Some(true));
+    assert_eq!(rt; piece_at(&board, 64), Some((0, 127, Status::Allocated)));
 
-    // A transferred piece is its new holder's, and stays so for the time that the entry says.
-    assert_eq!(rt; split(&mut board, 64), Some(true));
-    assert_eq!(rt;
-        transferred(&mut board, DAY, b"ORG-B", b"ORG-A", 0, HELD),
-        Some(false)
-    );
-    assert_eq!(rt;
-        transferred(&mut board, DAY, b"ORG-A", b"ORG-B", 1, HELD),
-        Some(true)
-    );
+    let rows = transfers().ok_or("steps")?;
+    let (mut board, wrong) = after(&rt, ROOMS, &rows)?;
+    assert_eq!(rt; wrong, None);
     assert_eq!(rt;
         (board.held(0, Space::Ipv4), board.held(1, Space::Ipv4)),
-        (64, 64)
+        (0, 64)
     );
-    assert_eq!(rt;
-        transferred(&mut board, HELD - 1, b"ORG-B", b"ORG-A", 0, HELD),
-        Some(false)
-    );
-    assert_eq!(rt;
-        transferred(&mut board, HELD, b"ORG-B", b"ORG-A", 0, HELD),
-        Some(true)
-    );
+    let back = transferred(HELD, b"ORG-B", b"ORG-A", 0, HELD).ok_or("a step")?;
+    assert_eq!(rt; taken(&mut board, &back), Some(true));
     assert_eq!(rt;
         (board.held(0, Space::Ipv4), board.held(1, Space::Ipv4)),
-        (128, 0)
+        (64, 0)
     );
     Ok(())
 }
@@ -338,24 +406,11 @@ fn rooms_are_kept(rt: HostRuntime) -> Result<(), Fail> {
         entries: 6,
         ..ROOMS
     };
-    let mut board = Board::with_room(rt.alloc(), rooms)?;
-    assert_eq!(rt; begun(&mut board), Some(true));
-    assert_eq!(rt; added(&mut board, b"ORG-C", b"Gamma Net"), Some(false));
-
-    // The edit of a holder needs no room, and keeps the number.
-    assert_eq!(rt; edited(&mut board, b"ORG-C", b"Gamma Net"), Some(false));
-    assert_eq!(rt; added(&mut board, b"ORG-A", b"Alpha"), Some(false));
-    assert_eq!(rt; edited(&mut board, b"ORG-A", b"Alpha"), Some(true));
+    let rows = filling().ok_or("steps")?;
+    let (board, wrong) = after(&rt, rooms, &rows)?;
+    assert_eq!(rt; wrong, None);
     let handle = Handle::read(b"ORG-A").ok_or("a handle")?;
     assert_eq!(rt; board.holders().by_handle(&handle), Some(0));
-
-    // A third piece has no room, and the other half as a whole needs none.
-    assert_eq!(rt; delegated(&mut board, DAY, 25, 0, 127), Some(true));
-    assert_eq!(rt; delegated(&mut board, DAY, 26, 128, 191), Some(false));
-    assert_eq!(rt; delegated(&mut board, DAY, 25, 128, 255), Some(true));
-
-    // The journal is full.
-    assert_eq!(rt; returned(&mut board, 0, 127, DUE), Some(false));
     assert_eq!(rt; board.entries(), 6);
     assert_eq!(rt; board.rooms(), rooms);
     Ok(())

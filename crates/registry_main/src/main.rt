@@ -10,6 +10,8 @@ mod line_buffer;
 mod policy_bytes;
 mod policy_file;
 mod run;
+#[cfg(test)]
+mod samples;
 mod session;
 
 use exit::Exit;

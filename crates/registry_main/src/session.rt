@@ -175,3 +175,6 @@ impl Session {
         }
     }
 }
+
+#[cfg(test)]
+mod tests;

@@ -1,5 +1,6 @@
 //! Scripts over memory, with the answers that a person works out.
 use super::*;
+use crate::samples::{FREE_ROW, joined, policy_of};
 use link_face::{FixedDay, MemSink, MemSource};
 use std::alloc::Global;
 use std::test::Fail;
@@ -7,30 +8,10 @@ use std::test::Fail;
 mod faults;
 mod lines;
 mod policies;
-mod refusals;
 mod requests;
 
 // 2024-03-01
 const DAY: FixedDay = FixedDay(19783);
-
-const POLICY_HEAD: &[u8] = b"registry = \"exreg\"\nquarantine_days = 30\nhold_days = 365\n\
-    hostmasters = { local = \"k-local-0001\" }\n[zone]\nmname = \"ns1.exreg.example\"\nrname = \"hostmaster.exreg.example\"\n\
-    ttl = 172800\nrefresh = 7200\nretry = 1800\nexpire = 604800\nminimum = 3600\nservers = [\"ns1.exreg.example\"]\n[ipv4]\n";
-
-// What one holder may hold isn't bounded, and no numbers have to be sub-assigned.
-const FREE_ROW: &[u8] =
-    b"allocated = { least = 20, most = 32, cap = 4294967296, percent = 0, kinds = [\"lir\"] }\n";
-
-// One holder may hold 128 numbers, and gets more once it has sub-assigned four fifths of those it has.
-const TIGHT_ROW: &[u8] =
-    b"allocated = { least = 20, most = 32, cap = 128, percent = 80, kinds = [\"lir\"] }\n";
-
-const POLICY_TAIL: &[u8] =
-    b"assigned = { least = 20, most = 32, cap = 4294967296, kinds = [\"lir\", \"enduser\"] }\n[ipv6]\n\
-    allocated = { least = 20, most = 64, cap = 2305843009213693952, percent = 0, kinds = [\"lir\"] }\n\
-    assigned = { least = 32, most = 64, cap = 2305843009213693952, kinds = [\"lir\", \"enduser\"] }\n[asn]\n\
-    allocated = { least = 1, most = 1024, cap = 4294967296, percent = 0, kinds = [\"lir\"] }\n\
-    assigned = { least = 1, most = 1024, cap = 4294967296, kinds = [\"lir\", \"enduser\"] }\n";
 
 // A /24 of documentation (RFC 5737) comes into the pool, and a first holder.
 const START: &[u8] =
@@ -44,20 +25,6 @@ fn words(alloc: Global, texts: &[&str]) -> Result<Vec<String>, Fail> {
         words.push(String::from_str(alloc, text)?)?;
     }
     Ok(words)
-}
-
-// The texts, one behind the other.
-fn joined(alloc: Global, texts: &[&[u8]]) -> Result<Vec<u8>, Fail> {
-    let mut all = Vec::new(alloc);
-    for text in texts {
-        all.extend_from_slice(text)?;
-    }
-    Ok(all)
-}
-
-// The policy with this row for allocated IPv4 numbers.
-fn policy_of(alloc: Global, row: &[u8]) -> Result<Vec<u8>, Fail> {
-    joined(alloc, &[POLICY_HEAD, row, POLICY_TAIL])
 }
 
 // The end of a run over a script that comes in pieces, and what it writes.
@@ -79,11 +46,10 @@ fn answer(
 // counted from 0.
 fn first_wrong_behind(
     rt: &HostRuntime,
-    row: &[u8],
     before: (&[u8], &[u8]),
     rows: &[(&[u8], &[u8])],
 ) -> Result<Option<usize>, Fail> {
-    let policy = policy_of(rt.alloc(), row)?;
+    let policy = policy_of(rt.alloc(), FREE_ROW)?;
     for (i, (script, answers)) in rows.iter().enumerate() {
         let script = joined(rt.alloc(), &[before.0, script])?;
         let answers = joined(rt.alloc(), &[before.1, answers])?;
@@ -99,5 +65,5 @@ fn first_wrong_behind(
 
 // The same where nothing goes before.
 fn first_wrong(rt: &HostRuntime, rows: &[(&[u8], &[u8])]) -> Result<Option<usize>, Fail> {
-    first_wrong_behind(rt, FREE_ROW, (b"", b""), rows)
+    first_wrong_behind(rt, (b"", b""), rows)
 }

@@ -42,7 +42,7 @@ fn delegates_and_takes_back(rt: HostRuntime) -> Result<(), Fail> {
         ),
     ];
     assert_eq!(rt;
-        first_wrong_behind(&rt, FREE_ROW, (START, START_ANSWERS), &rows)?,
+        first_wrong_behind(&rt, (START, START_ANSWERS), &rows)?,
         None
     );
     Ok(())
@@ -50,12 +50,18 @@ fn delegates_and_takes_back(rt: HostRuntime) -> Result<(), Fail> {
 
 #[test]
 fn splits_joins_and_edits(rt: HostRuntime) -> Result<(), Fail> {
-    let rows: [(&[u8], &[u8]); 4] = [
+    let rows: [(&[u8], &[u8]); 5] = [
         (
             b"delegate ipv4 /25 allocated ORG-A\nsplit 192.0.2.64\nshow 192.0.2.64\njoin 192.0.2.64\nshow 192.0.2.64\n",
             b"ok 3 192.0.2.0 - 192.0.2.127\nok 4 192.0.2.0 - 192.0.2.127\n\
                 192.0.2.64 - 192.0.2.127 allocated ORG-A 20240301 -\nok 5 192.0.2.0 - 192.0.2.127\n\
                 192.0.2.0 - 192.0.2.127 allocated ORG-A 20240301 -\n",
+        ),
+        // An end user has numbers for its own use alone.
+        (
+            b"holder ORG-E enduser FR \"Eve\" \"e@e.example\"\ndelegate ipv4 /26 allocated ORG-E\n\
+                delegate ipv4 /26 assigned ORG-E\n",
+            b"ok 3 -\nrefused N21 HolderKind enduser\nok 4 192.0.2.0 - 192.0.2.63\n",
         ),
         (
             b"edit ORG-A enduser FR \"Alpha\" \"a@alpha.example\"\ndelegate ipv4 /26 allocated ORG-A\n\
@@ -81,7 +87,7 @@ fn splits_joins_and_edits(rt: HostRuntime) -> Result<(), Fail> {
         ),
     ];
     assert_eq!(rt;
-        first_wrong_behind(&rt, FREE_ROW, (START, START_ANSWERS), &rows)?,
+        first_wrong_behind(&rt, (START, START_ANSWERS), &rows)?,
         None
     );
     Ok(())

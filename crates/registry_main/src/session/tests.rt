@@ -1,0 +1,215 @@
+//! Requests that are refused, each with the number of the refusal and its values; where several rules are against one,
+//! the lowest number is told.
+use super::*;
+use crate::batch::answer_script;
+use crate::samples::{FREE_ROW, TIGHT_ROW, policy_of};
+use link_face::{MemSink, MemSource};
+use std::test::Fail;
+
+/// What goes before each row: a network, half of it delegated, two registries and an end user.
+const START: &str = r#"
+day 20240301
+receive 192.0.2.0/24
+holder ORG-A lir DE "Alpha Net" "noc@alpha.example"
+holder ORG-B lir FR "Beta Net" "noc@beta.example"
+delegate ipv4 /25 allocated ORG-A
+holder ORG-E enduser FR "Eve" "e@e.example"
+"#;
+
+/// A line a row: the refusals whose rules are against the request, the situation, what is accepted before, the request,
+/// and why it is refused. In a tight situation one holder may hold 128 allocated numbers, of which it has to sub-assign
+/// four fifths; the register has no room for more pieces, holders or entries where the situation names them.
+const ROWS: &str = r#"
+N1 | | | delegate ipv4 /33 allocated ORG-A | N1 Malformed 15
+N1 | | | sub 192.0.2.32/27 ORG-A | N1 Malformed 1
+N1 | | | unsub 192.0.2.0/27 | N1 Malformed 1
+N1 | | | reverse 192.0.2.0/25 ns1.alpha.example | N1 Malformed 1
+N1 | | | unreverse 192.0.2.0/25 | N1 Malformed 1
+
+N2 | | by nobody | reserve 192.0.2.200 | N2 UnknownHostmaster
+N2 N10 N11 N13 N14 N32 | entries | by nobody | return 192.0.2.0-192.0.3.0 ORG-X | N2 UnknownHostmaster
+N2 N12 N13 | | by nobody | return 192.0.2.128/25 ORG-X | N2 UnknownHostmaster
+N2 N15 N31 N32 | holders entries | by nobody | holder ORG-A lir DE "Alpha Net" "noc@alpha.example" | N2 UnknownHostmaster
+N2 N16 N30 | pieces | by nobody | receive 192.0.2.64-192.0.2.70 | N2 UnknownHostmaster
+N2 N19 | | delegate ipv4 /26 allocated ORG-B; by nobody | join 192.0.2.128 | N2 UnknownHostmaster
+N2 N20 N21 N22 N23 N28 | tight | edit ORG-A enduser DE "Alpha" "a@alpha.example"; by nobody | delegate ipv4 /19 allocated ORG-A | N2 UnknownHostmaster
+N2 N24 | | transfer 192.0.2.0/25 ORG-A ORG-B; by nobody | transfer 192.0.2.0/25 ORG-B ORG-A | N2 UnknownHostmaster
+N2 N25 | | return 192.0.2.0/25 ORG-A; by nobody | release 192.0.2.0/25 | N2 UnknownHostmaster
+
+N10 | | | receive 4000::/16 | N10 OutsidePool 4000::
+N10 | | | reserve 192.0.3.0 | N10 OutsidePool 192.0.3.0
+N10 | | | split 192.0.3.0 | N10 OutsidePool 192.0.3.0
+N10 | | | join 0.0.0.0 | N10 OutsidePool 0.0.0.0
+N10 | | | join 192.0.3.0 | N10 OutsidePool 192.0.3.0
+N10 N11 N12 N30 N32 | pieces entries | delegate ipv4 /25 allocated ORG-B | reserve 192.0.2.250-192.0.3.0 | N10 OutsidePool 192.0.3.0
+N10 N11 N13 N14 N21 N22 N24 | tight | delegate ipv4 /26 assigned ORG-E; transfer 192.0.2.0/25 ORG-A ORG-B | transfer 192.0.2.0-192.0.3.0 ORG-X ORG-E | N10 OutsidePool 192.0.3.0
+N10 N11 N25 | | return 192.0.2.0/25 ORG-A | release 192.0.2.0-192.0.3.0 | N10 OutsidePool 192.0.3.0
+N10 N12 | | receive 198.51.100.0/24 | join 198.51.100.0 | N10 OutsidePool 198.51.99.255
+N10 N16 | | receive 3fff::/16 | receive 3fff::-4000:: | N10 OutsidePool 4000::
+N10 N30 N32 | pieces entries | | receive 4000::/16 | N10 OutsidePool 4000::
+
+N11 | | reserve 192.0.2.255 | reserve 192.0.2.200-192.0.2.255 | N11 NotOnePiece 192.0.2.128 - 192.0.2.254
+N11 | | | return 192.0.2.0/26 ORG-A | N11 NotOnePiece 192.0.2.0 - 192.0.2.127
+N11 | | | split 192.0.2.0 | N11 NotOnePiece 192.0.2.0 - 192.0.2.127
+N11 | | | join 192.0.2.1 | N11 NotOnePiece 192.0.2.0 - 192.0.2.127
+N11 N12 N13 | | | return 192.0.2.128/26 ORG-X | N11 NotOnePiece 192.0.2.128 - 192.0.2.255
+N11 N12 N30 | pieces | | reserve 192.0.2.120-192.0.2.130 | N11 NotOnePiece 192.0.2.0 - 192.0.2.127
+N11 N12 | | | unreserve 192.0.2.0/26 | N11 NotOnePiece 192.0.2.0 - 192.0.2.127
+N11 N12 | | | split 192.0.2.128 | N11 NotOnePiece 192.0.2.128 - 192.0.2.255
+N11 N12 | | | join 192.0.2.200 | N11 NotOnePiece 192.0.2.128 - 192.0.2.255
+N11 N13 N14 N21 N22 N24 N32 | tight entries | delegate ipv4 /26 assigned ORG-E; transfer 192.0.2.0/25 ORG-A ORG-B | transfer 192.0.2.0/26 ORG-X ORG-E | N11 NotOnePiece 192.0.2.0 - 192.0.2.127
+N11 N25 | | return 192.0.2.0/25 ORG-A | release 192.0.2.0/26 | N11 NotOnePiece 192.0.2.0 - 192.0.2.127
+
+N12 | | | reserve 192.0.2.5 | N12 WrongStatus allocated
+N12 | | | unreserve 192.0.2.128/25 | N12 WrongStatus available
+N12 | | | release 192.0.2.0/25 | N12 WrongStatus allocated
+N12 | | | split 192.0.2.200 | N12 WrongStatus available
+N12 N13 N32 | entries | | return 192.0.2.128/25 ORG-X | N12 WrongStatus available
+N12 N13 N24 | | return 192.0.2.0/25 ORG-A | transfer 192.0.2.0/25 ORG-X ORG-B | N12 WrongStatus quarantine
+N12 N19 | | | join 192.0.2.128 | N12 WrongStatus available
+N12 N25 | | transfer 192.0.2.0/25 ORG-A ORG-B | release 192.0.2.0/25 | N12 WrongStatus allocated
+N12 N30 N32 | pieces entries | | reserve 192.0.2.5 | N12 WrongStatus allocated
+N12 N30 | pieces | | split 192.0.2.200 | N12 WrongStatus available
+
+N13 | | | edit ORG-X lir FR "X" "x@x.example" | N13 UnknownHolder ORG-X
+N13 | | | delegate ipv4 /26 assigned ORG-X | N13 UnknownHolder ORG-X
+N13 | | | transfer 192.0.2.0/25 ORG-A ORG-X | N13 UnknownHolder ORG-X
+N13 N14 | | | return 192.0.2.0/25 ORG-X | N13 UnknownHolder ORG-X
+N13 N14 | | | transfer 192.0.2.0/25 ORG-X ORG-Y | N13 UnknownHolder ORG-X
+N13 N14 | | | transfer 192.0.2.0/25 ORG-B ORG-Y | N13 UnknownHolder ORG-Y
+N13 N14 N21 N22 N24 N32 | tight entries | delegate ipv4 /26 assigned ORG-E; transfer 192.0.2.0/25 ORG-A ORG-B | transfer 192.0.2.0/25 ORG-X ORG-E | N13 UnknownHolder ORG-X
+N13 N20 N28 | | | delegate ipv4 /19 allocated ORG-X | N13 UnknownHolder ORG-X
+N13 N30 | pieces | | delegate ipv4 /26 allocated ORG-X | N13 UnknownHolder ORG-X
+
+N14 | | | return 192.0.2.0/25 ORG-B | N14 NotHolder ORG-A
+N14 | | | transfer 192.0.2.0/25 ORG-B ORG-A | N14 NotHolder ORG-A
+N14 N21 N22 N24 N32 | tight entries | delegate ipv4 /26 assigned ORG-E; transfer 192.0.2.0/25 ORG-A ORG-B | transfer 192.0.2.0/25 ORG-A ORG-E | N14 NotHolder ORG-B
+
+N15 | | | holder ORG-B lir FR "Beta Net" "noc@beta.example" | N15 HandleTaken
+N15 N31 N32 | holders entries | | holder ORG-B lir FR "Beta Net" "noc@beta.example" | N15 HandleTaken
+
+N16 | | | receive 192.0.2.255-192.0.3.10 | N16 Overlap 192.0.2.255
+N16 N30 N32 | pieces entries | | receive 192.0.2.64-192.0.2.70 | N16 Overlap 192.0.2.64
+
+N19 | | delegate ipv4 /26 allocated ORG-B | join 192.0.2.128 | N19 CardsDiffer 192.0.2.0 - 192.0.2.127
+N19 N32 | entries | delegate ipv4 /26 allocated ORG-B | join 192.0.2.128 | N19 CardsDiffer 192.0.2.0 - 192.0.2.127
+
+N20 | | receive 2001:db8::/32 | delegate ipv6 /65 allocated ORG-A | N20 LengthOutOfPolicy 20 64
+N20 N28 | | | delegate ipv4 /19 allocated ORG-A | N20 LengthOutOfPolicy 20 32
+N20 N21 N22 N23 N28 N32 | tight entries | edit ORG-A enduser DE "Alpha" "a@alpha.example" | delegate ipv4 /19 allocated ORG-A | N20 LengthOutOfPolicy 20 32
+N20 N22 N23 N30 | tight pieces | receive 10.0.0.0/18 | delegate ipv4 /19 allocated ORG-A | N20 LengthOutOfPolicy 20 32
+
+N21 | | | delegate ipv4 /26 allocated ORG-E | N21 HolderKind enduser
+N21 | | | transfer 192.0.2.0/25 ORG-A ORG-E | N21 HolderKind enduser
+N21 N22 N23 N28 N32 | tight entries | edit ORG-A enduser DE "Alpha" "a@alpha.example" | delegate ipv4 /24 allocated ORG-A | N21 HolderKind enduser
+N21 N22 N23 N30 | tight pieces | edit ORG-A enduser DE "Alpha" "a@alpha.example" | delegate ipv4 /26 allocated ORG-A | N21 HolderKind enduser
+N21 N22 N24 N32 | tight entries | delegate ipv4 /26 assigned ORG-E; transfer 192.0.2.0/25 ORG-A ORG-B | transfer 192.0.2.0/25 ORG-B ORG-E | N21 HolderKind enduser
+
+N22 | tight | receive 198.51.100.0/24 | delegate ipv4 /24 allocated ORG-B | N22 OverCap 256 128
+N22 | tight | delegate ipv4 /26 allocated ORG-B | transfer 192.0.2.0/25 ORG-A ORG-B | N22 OverCap 192 128
+N22 N23 N28 N32 | tight entries | | delegate ipv4 /24 allocated ORG-A | N22 OverCap 384 128
+N22 N23 N30 | tight pieces | | delegate ipv4 /26 allocated ORG-A | N22 OverCap 192 128
+N22 N24 N32 | tight entries | transfer 192.0.2.0/25 ORG-A ORG-B; delegate ipv4 /26 allocated ORG-A | transfer 192.0.2.0/25 ORG-B ORG-A | N22 OverCap 192 128
+
+N23 | tight | delegate ipv4 /26 allocated ORG-B | delegate ipv4 /26 allocated ORG-B | N23 UnderUsed 0 64
+N23 N28 N32 | tight entries | delegate ipv4 /26 allocated ORG-B; reserve 192.0.2.192/26 | delegate ipv4 /26 allocated ORG-B | N23 UnderUsed 0 64
+N23 N30 | tight pieces | delegate ipv4 /26 allocated ORG-B | delegate ipv4 /27 allocated ORG-B | N23 UnderUsed 0 64
+
+N24 | | transfer 192.0.2.0/25 ORG-A ORG-B; day 20250228 | transfer 192.0.2.0/25 ORG-B ORG-A | N24 HoldTime 20250301
+N24 N32 | entries | transfer 192.0.2.0/25 ORG-A ORG-B | transfer 192.0.2.0/25 ORG-B ORG-A | N24 HoldTime 20250301
+N25 | | return 192.0.2.0/25 ORG-A; day 20240330 | release 192.0.2.0/25 | N25 NotDue 20240331
+N25 N32 | entries | return 192.0.2.0/25 ORG-A | release 192.0.2.0/25 | N25 NotDue 20240331
+N28 | | | delegate ipv4 /24 allocated ORG-B | N28 NoBlock
+N28 N32 | entries | | delegate ipv4 /24 allocated ORG-B | N28 NoBlock
+N30 | pieces | | reserve 192.0.2.200 | N30 RegisterFull 4 2
+N30 | pieces | | split 192.0.2.64 | N30 RegisterFull 3 2
+N30 N32 | pieces entries | | delegate ipv4 /26 allocated ORG-B | N30 RegisterFull 3 2
+N31 | holders | | holder ORG-C lir NL "Gamma Net" "noc@gamma.example" | N31 HoldersFull 3
+N31 N32 | holders entries | | holder ORG-C lir NL "Gamma Net" "noc@gamma.example" | N31 HoldersFull 3
+N32 | entries | | edit ORG-A lir DE "Alpha" "a@alpha.example" | N32 JournalFull 5
+N32 | entries | return 192.0.2.0/25 ORG-A; day 20240331 | release 192.0.2.0/25 | N32 JournalFull 6
+"#;
+
+/// A session over a register with these rooms.
+fn session(rt: &HostRuntime, rooms: Rooms, is_tight: bool) -> Result<Session, Fail> {
+    let row = if is_tight { TIGHT_ROW } else { FREE_ROW };
+    let policy = policy_of(rt.alloc(), row)?;
+    Ok(Session {
+        board: Board::with_room(rt.alloc(), rooms)?,
+        policy: Policy::read(rt.alloc(), &policy)?,
+        day: 19783,
+        who: Name::read(b"local").ok_or("a name")?,
+    })
+}
+
+/// The answers to lines, of which the last has no line end.
+fn answers(rt: &HostRuntime, session: &mut Session, lines: &str) -> Result<Vec<u8>, Fail> {
+    let mut script = MemSource::new(lines.as_bytes());
+    let mut out = MemSink::new(rt.alloc());
+    if answer_script(session, &mut script, &mut out).is_err() {
+        return Err("the memory failed".into());
+    }
+    Ok(out.bytes().to_vec(rt.alloc())?)
+}
+
+/// Does what goes before a request, and says whether all of it was accepted.
+fn prepares(rt: &HostRuntime, session: &mut Session, before: &str) -> Result<bool, Fail> {
+    let mut written = answers(rt, session, START)?;
+    for line in before.split(';') {
+        written.extend_from_slice(&answers(rt, session, line)?)?;
+    }
+    Ok(
+        written
+            .split(|byte| *byte == b'\n')
+            .all(|line| line.is_empty() || line.starts_with(b"ok ")),
+    )
+}
+
+/// The rooms, without any more where the situation names them.
+fn rooms_in(situation: &str, board: &Board) -> Rooms {
+    let mut rooms = ROOMS;
+    if situation.contains("pieces") {
+        rooms.pieces = board.pieces().pieces().clamp(1, ROOMS.pieces);
+    }
+    if situation.contains("holders") {
+        rooms.holders = board.holders().len().clamp(1, ROOMS.holders);
+    }
+    if situation.contains("entries") {
+        rooms.entries = board.entries().clamp(1, ROOMS.entries);
+    }
+    rooms
+}
+
+/// Whether the row's request is refused as it says, for the first of the reasons.
+fn is_refused(rt: &HostRuntime, row: &str) -> Result<bool, Fail> {
+    let mut columns = row.split('|').map(|column| column.trim());
+    let (Some(reasons), Some(situation), Some(before), Some(request), Some(refusal)) = (
+        columns.next(),
+        columns.next(),
+        columns.next(),
+        columns.next(),
+        columns.next(),
+    ) else {
+        return Ok(false);
+    };
+    let is_tight = situation.contains("tight");
+    let mut ample = session(rt, ROOMS, is_tight)?;
+    let is_prepared = prepares(rt, &mut ample, before)?;
+    let rooms = rooms_in(situation, &ample.board);
+    let mut session = session(rt, rooms, is_tight)?;
+    let is_prepared = is_prepared && prepares(rt, &mut session, before)?;
+    let answer = answers(rt, &mut session, request)?;
+    let wanted = format!(in rt.alloc(); "refused {refusal}\n")?;
+    let is_first = reasons.split(' ').next() == refusal.split(' ').next();
+    Ok(is_prepared && is_first && answer.as_slice() == wanted.as_bytes())
+}
+
+#[test]
+fn refuses_for_the_first_reason(rt: HostRuntime) -> Result<(), Fail> {
+    for row in ROWS.lines() {
+        if !row.is_empty() {
+            assert!(rt; is_refused(&rt, row)?, "{row}");
+        }
+    }
+    Ok(())
+}
