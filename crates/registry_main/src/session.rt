@@ -2,7 +2,6 @@
 ghost use Rattle.std.specs.Prelude.{◌≡◌, ◌<◌, ◌++◌, max, codes, length, None, Ok, IfOk, IfSome};
 ghost use Rattle.reg_entry.specs.declared.entry.Reply.TheVariants.{Refused};
 ghost use Rattle.reg_entry.specs.declared.refusal.Refusal.TheVariants.{Malformed};
-ghost use Rattle.reg_entry.specs.Days.{clamped_day};
 ghost use Rattle.reg_entry.specs.Holders.{handle_of};
 ghost use Rattle.reg_entry.specs.Register.{piece_of};
 ghost use Rattle.desk_lang.specs.ReplyText.{ReplyHasDate};
@@ -17,7 +16,7 @@ use num_range::Number;
 use piece_book::PieceBook;
 use policy_table::Policy;
 use reg_entry::{Handle, Name, Piece, Refusal, Reply, Request, Rooms};
-use request_core::decide;
+use request_core::{clamped_day, decide};
 use std::alloc::{AllocError, Global};
 use std::marker::Model;
 
@@ -30,9 +29,6 @@ const ROOMS: Rooms = Rooms {
     entries: 1_000_000,
     window: 65_536,
 };
-
-/// The greatest day that the register knows, 9999-12-31.
-const LAST_DAY: u32 = 2_932_896;
 
 /// The register of a script so far, the policy by which its requests are decided, and who asks on which day. Making one
 /// takes memory, and nothing after that does.
@@ -50,13 +46,6 @@ impl Model for Session {
     ghost Value = { PlainSession };
 
     ghost view = { λ s. record { register = s.board; policy = s.policy; day = s.day; who = s.who } };
-}
-
-/// A clock's day as the register takes it: from 1970-01-02 to 9999-12-31.
-fn clamped_day(day: u32) -> u32
-    ensures { result ≡ clamped_day day }
-{
-    day.clamp(1, LAST_DAY)
 }
 
 /// The answer of a line that isn't decided.

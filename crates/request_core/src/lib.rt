@@ -9,3 +9,4 @@ mod proposal;
 mod tests;
 
 pub use decision::decide;
+pub use proposal::clamped_day;

@@ -16,8 +16,8 @@ use reg_entry::{Entry, Name, Request};
 /// The greatest day that the register knows, 9999-12-31.
 const LAST_DATE: u32 = 2_932_896;
 
-/// A clock's day as the register takes it.
-fn clamped_day(day: u32) -> u32
+/// A clock's day as the register takes it: from 1970-01-02 to 9999-12-31.
+pub fn clamped_day(day: u32) -> u32
     ensures { result ≡ clamped_day day }
 {
     day.clamp(1, LAST_DATE)
