@@ -199,7 +199,8 @@ fn transferred(day: u32, from: &[u8], to: &[u8], holder: u32, until: u32) -> Opt
 }
 
 /// Takes an entry in where it may come next, and says whether it was.
-fn taken(board: &mut Board, step: &Step) -> Option<bool> {
+fn taken(board: &mut Board, step: &Option<Step>) -> Option<bool> {
+    let step = step.as_ref()?;
     if !is_of_pieces_or_holders(&step.request) {
         return None;
     }
@@ -219,7 +220,7 @@ fn taken(board: &mut Board, step: &Step) -> Option<bool> {
 }
 
 /// The first step for which it isn't as the row says whether it is taken, counted from 0.
-fn first_wrong(board: &mut Board, rows: &[(Step, bool)]) -> Option<usize> {
+fn first_wrong(board: &mut Board, rows: &[(Option<Step>, bool)]) -> Option<usize> {
     for (i, (step, is_taken)) in rows.iter().enumerate() {
         if taken(board, step) != Some(*is_taken) {
             return Some(i);
@@ -229,104 +230,103 @@ fn first_wrong(board: &mut Board, rows: &[(Step, bool)]) -> Option<usize> {
 }
 
 /// A network comes in, and the first holder, which is number 0.
-fn begun() -> Option<[(Step, bool); 2]> {
-    Some([
-        (received(0, 255)?, true),
-        (added(b"ORG-A", b"Alpha Net")?, true),
-    ])
+fn begun() -> [(Option<Step>, bool); 2] {
+    [
+        (received(0, 255), true),
+        (added(b"ORG-A", b"Alpha Net"), true),
+    ]
 }
 
 /// One address is kept back, so that no aligned block of 64 is free from it on but those of the upper half. What was
 /// returned is kept back too, up to the day that its entry says.
-fn blocks() -> Option<[(Step, bool); 16]> {
-    Some([
-        (delegated(DAY, 26, 0, 63)?, true),
-        (reserved(64, 64)?, true),
-        (delegated(DAY, 26, 64, 127)?, false),
-        (delegated(DAY, 26, 65, 128)?, false),
-        (delegated(DAY, 26, 128, 190)?, false),
-        (delegated(DAY, 26, 128, 191)?, true),
-        (delegated(DAY, 26, 192, 255)?, true),
-        (delegated(DAY, 26, 64, 127)?, false),
-        (returned(0, 63, DAY - 1)?, false),
-        (returned(0, 62, DUE)?, false),
-        (returned(0, 63, DUE)?, true),
-        (delegated(DAY, 26, 0, 63)?, false),
-        (released(DUE - 1, 0, 63)?, false),
-        (released(DUE, 0, 63)?, true),
+fn blocks() -> [(Option<Step>, bool); 16] {
+    [
+        (delegated(DAY, 26, 0, 63), true),
+        (reserved(64, 64), true),
+        (delegated(DAY, 26, 64, 127), false),
+        (delegated(DAY, 26, 65, 128), false),
+        (delegated(DAY, 26, 128, 190), false),
+        (delegated(DAY, 26, 128, 191), true),
+        (delegated(DAY, 26, 192, 255), true),
+        (delegated(DAY, 26, 64, 127), false),
+        (returned(0, 63, DAY - 1), false),
+        (returned(0, 62, DUE), false),
+        (returned(0, 63, DUE), true),
+        (delegated(DAY, 26, 0, 63), false),
+        (released(DUE - 1, 0, 63), false),
+        (released(DUE, 0, 63), true),
         // No entry is older than the one before it.
-        (delegated(DUE - 1, 26, 0, 63)?, false),
-        (delegated(DUE, 26, 0, 63)?, true),
-    ])
+        (delegated(DUE - 1, 26, 0, 63), false),
+        (delegated(DUE, 26, 0, 63), true),
+    ]
 }
 
 /// What is released joins what is available on either side.
-fn releases() -> Option<[(Step, bool); 5]> {
-    Some([
-        (reserved(0, 63)?, true),
-        (delegated(DAY, 26, 64, 127)?, true),
-        (unreserved(0, 63)?, true),
-        (returned(64, 127, DUE)?, true),
-        (released(DUE, 64, 127)?, true),
-    ])
+fn releases() -> [(Option<Step>, bool); 5] {
+    [
+        (reserved(0, 63), true),
+        (delegated(DAY, 26, 64, 127), true),
+        (unreserved(0, 63), true),
+        (returned(64, 127, DUE), true),
+        (released(DUE, 64, 127), true),
+    ]
 }
 
-fn all_at_once() -> Option<[(Step, bool); 2]> {
-    Some([
-        (delegated(DAY, 23, 0, 255)?, false),
-        (delegated(DAY, 24, 0, 255)?, true),
-    ])
+fn all_at_once() -> [(Option<Step>, bool); 2] {
+    [
+        (delegated(DAY, 23, 0, 255), false),
+        (delegated(DAY, 24, 0, 255), true),
+    ]
 }
 
-fn splits() -> Option<[(Step, bool); 4]> {
-    Some([
-        (delegated(DAY, 25, 0, 127)?, true),
-        (joined(64)?, false),
-        (split(64)?, true),
-        (split(64)?, false),
-    ])
+fn splits() -> [(Option<Step>, bool); 4] {
+    [
+        (delegated(DAY, 25, 0, 127), true),
+        (joined(64), false),
+        (split(64), true),
+        (split(64), false),
+    ]
 }
 
 /// A transferred piece is held for the time that its entry says, whatever day it is said to be.
-fn transfers() -> Option<[(Step, bool); 7]> {
-    Some([
-        (added(b"ORG-B", b"Beta Net")?, true),
-        (delegated(DAY, 26, 0, 63)?, true),
-        (transferred(DAY, b"ORG-B", b"ORG-A", 0, HELD)?, false),
-        (transferred(DAY, b"ORG-A", b"ORG-B", 1, HELD)?, true),
-        (transferred(DAY, b"ORG-B", b"ORG-A", 0, HELD)?, false),
-        (transferred(EARLIER, b"ORG-B", b"ORG-A", 0, HELD)?, false),
-        (transferred(HELD - 1, b"ORG-B", b"ORG-A", 0, HELD)?, false),
-    ])
+fn transfers() -> [(Option<Step>, bool); 7] {
+    [
+        (added(b"ORG-B", b"Beta Net"), true),
+        (delegated(DAY, 26, 0, 63), true),
+        (transferred(DAY, b"ORG-B", b"ORG-A", 0, HELD), false),
+        (transferred(DAY, b"ORG-A", b"ORG-B", 1, HELD), true),
+        (transferred(DAY, b"ORG-B", b"ORG-A", 0, HELD), false),
+        (transferred(EARLIER, b"ORG-B", b"ORG-A", 0, HELD), false),
+        (transferred(HELD - 1, b"ORG-B", b"ORG-A", 0, HELD), false),
+    ]
 }
 
 /// What fills a register of two pieces, two holders and six entries. The edit of a holder needs no room but an entry's.
-fn filling() -> Option<[(Step, bool); 10]> {
-    Some([
-        (added(b"ORG-B", b"Beta Net")?, true),
-        (added(b"ORG-C", b"Gamma Net")?, false),
-        (edited(b"ORG-C", b"Gamma Net")?, false),
-        (added(b"ORG-A", b"Alpha")?, false),
-        (edited(b"ORG-A", b"Alpha")?, true),
+fn filling() -> [(Option<Step>, bool); 10] {
+    [
+        (added(b"ORG-B", b"Beta Net"), true),
+        (added(b"ORG-C", b"Gamma Net"), false),
+        (edited(b"ORG-C", b"Gamma Net"), false),
+        (added(b"ORG-A", b"Alpha"), false),
+        (edited(b"ORG-A", b"Alpha"), true),
         // A third piece has no room, and the other half as a whole needs none.
-        (delegated(DAY, 25, 0, 127)?, true),
-        (delegated(DAY, 26, 128, 191)?, false),
-        (delegated(DAY, 25, 128, 255)?, true),
+        (delegated(DAY, 25, 0, 127), true),
+        (delegated(DAY, 26, 128, 191), false),
+        (delegated(DAY, 25, 128, 255), true),
         // The journal is full.
-        (returned(0, 127, DUE)?, false),
-        (edited(b"ORG-A", b"Alpha Net")?, false),
-    ])
+        (returned(0, 127, DUE), false),
+        (edited(b"ORG-A", b"Alpha Net"), false),
+    ]
 }
 
 /// The register after the steps, behind those with which each begins, and the first that isn't as its row says.
 fn after(
     rt: &HostRuntime,
     rooms: Rooms,
-    rows: &[(Step, bool)],
+    rows: &[(Option<Step>, bool)],
 ) -> Result<(Board, Option<usize>), Fail> {
     let mut board = Board::with_room(rt.alloc(), rooms)?;
-    let first = begun().ok_or("steps")?;
-    let wrong = first_wrong(&mut board, &first).or(first_wrong(&mut board, rows));
+    let wrong = first_wrong(&mut board, &begun()).or(first_wrong(&mut board, rows));
     Ok((board, wrong))
 }
 
@@ -342,8 +342,7 @@ fn piece_at(board: &Board, octet: u128) -> Option<(u128, u128, Status)> {
 
 #[test]
 fn blocks_are_taken_returned_and_released(rt: HostRuntime) -> Result<(), Fail> {
-    let rows = blocks().ok_or("steps")?;
-    let (board, wrong) = after(&rt, ROOMS, &rows)?;
+    let (board, wrong) = after(&rt, ROOMS, &blocks())?;
     assert_eq!(rt; wrong, None);
     assert_eq!(rt;
         (board.first_day(), board.last_day(), board.entries()),
@@ -358,13 +357,11 @@ fn blocks_are_taken_returned_and_released(rt: HostRuntime) -> Result<(), Fail> {
         (0, 0)
     );
 
-    let rows = releases().ok_or("steps")?;
-    let (board, wrong) = after(&rt, ROOMS, &rows)?;
+    let (board, wrong) = after(&rt, ROOMS, &releases())?;
     assert_eq!(rt; wrong, None);
     assert_eq!(rt; piece_at(&board, 64), Some((0, 255, Status::Available)));
 
-    let rows = all_at_once().ok_or("steps")?;
-    let (board, wrong) = after(&rt, ROOMS, &rows)?;
+    let (board, wrong) = after(&rt, ROOMS, &all_at_once())?;
     assert_eq!(rt; wrong, None);
     assert_eq!(rt; piece_at(&board, 255), Some((0, 255, Status::Allocated)));
     Ok(())
@@ -373,23 +370,20 @@ fn blocks_are_taken_returned_and_released(rt: HostRuntime) -> Result<(), Fail> {
 #[test]
 fn pieces_are_split_joined_and_transferred(rt: HostRuntime) -> Result<(), Fail> {
     // A split and a join leave each card as it is.
-    let rows = splits().ok_or("steps")?;
-    let (mut board, wrong) = after(&rt, ROOMS, &rows)?;
+    let (mut board, wrong) = after(&rt, ROOMS, &splits())?;
     assert_eq!(rt; wrong, None);
     assert_eq!(rt; piece_at(&board, 63), Some((0, 63, Status::Allocated)));
     assert_eq!(rt; piece_at(&board, 64), Some((64, 127, Status::Allocated)));
-    let join = joined(64).ok_or("a step")?;
-    assert_eq!(rt; taken(&mut board, &join), Some(true));
+    assert_eq!(rt; taken(&mut board, &joined(64)), Some(true));
     assert_eq!(rt; piece_at(&board, 64), Some((0, 127, Status::Allocated)));
 
-    let rows = transfers().ok_or("steps")?;
-    let (mut board, wrong) = after(&rt, ROOMS, &rows)?;
+    let (mut board, wrong) = after(&rt, ROOMS, &transfers())?;
     assert_eq!(rt; wrong, None);
     assert_eq!(rt;
         (board.held(0, Space::Ipv4), board.held(1, Space::Ipv4)),
         (0, 64)
     );
-    let back = transferred(HELD, b"ORG-B", b"ORG-A", 0, HELD).ok_or("a step")?;
+    let back = transferred(HELD, b"ORG-B", b"ORG-A", 0, HELD);
     assert_eq!(rt; taken(&mut board, &back), Some(true));
     assert_eq!(rt;
         (board.held(0, Space::Ipv4), board.held(1, Space::Ipv4)),
@@ -406,8 +400,7 @@ fn rooms_are_kept(rt: HostRuntime) -> Result<(), Fail> {
         entries: 6,
         ..ROOMS
     };
-    let rows = filling().ok_or("steps")?;
-    let (board, wrong) = after(&rt, rooms, &rows)?;
+    let (board, wrong) = after(&rt, rooms, &filling())?;
     assert_eq!(rt; wrong, None);
     let handle = Handle::read(b"ORG-A").ok_or("a handle")?;
     assert_eq!(rt; board.holders().by_handle(&handle), Some(0));
