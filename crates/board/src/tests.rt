@@ -1,5 +1,7 @@
 //! Registers that entries build one by one, each of them only where it may come next. The ranges are of 192.0.2.0/24
 //! (RFC 5737), by their last octets.
+ghost use Rattle.reg_entry.specs.Rooms.{AreRooms};
+
 use crate::{Board, is_of_pieces_or_holders};
 use num_range::{Number, Range, Space};
 use reg_entry::{
@@ -324,7 +326,9 @@ fn after(
     rt: &HostRuntime,
     rooms: Rooms,
     rows: &[(Option<Step>, bool)],
-) -> Result<(Board, Option<usize>), Fail> {
+) -> Result<(Board, Option<usize>), Fail>
+    requires { AreRooms rooms }
+{
     let mut board = Board::with_room(rt.alloc(), rooms)?;
     let wrong = first_wrong(&mut board, &begun()).or(first_wrong(&mut board, rows));
     Ok((board, wrong))

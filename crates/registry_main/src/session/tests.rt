@@ -1,5 +1,8 @@
 //! Requests that are refused, each with the number of the refusal and its values; where several rules are against one,
 //! the lowest number is told.
+ghost use Rattle.std.specs.Prelude.{◌≤◌, IfOk};
+ghost use Rattle.reg_entry.specs.Rooms.{AreRooms};
+
 use super::*;
 use crate::batch::answer_script;
 use crate::samples::{FREE_ROW, TIGHT_ROW, policy_of};
@@ -131,7 +134,9 @@ N32 | entries | return 192.0.2.0/25 ORG-A; day 20240331 | release 192.0.2.0/25 |
 "#;
 
 /// A session over a register with these rooms.
-fn session(rt: &HostRuntime, rooms: Rooms, is_tight: bool) -> Result<Session, Fail> {
+fn session(rt: &HostRuntime, rooms: Rooms, is_tight: bool) -> Result<Session, Fail>
+    requires { AreRooms rooms }
+{
     let row = if is_tight { TIGHT_ROW } else { FREE_ROW };
     let policy = policy_of(rt.alloc(), row)?;
     Ok(Session {
@@ -142,9 +147,9 @@ fn session(rt: &HostRuntime, rooms: Rooms, is_tight: bool) -> Result<Session, Fa
     })
 }
 
-/// The answers to lines, of which the last has no line end.
-fn answers(rt: &HostRuntime, session: &mut Session, lines: &str) -> Result<Vec<u8>, Fail> {
-    let mut script = MemSource::new(lines.as_bytes());
+/// What a session answers to lines.
+fn answers(rt: &HostRuntime, session: &mut Session, lines: &[u8]) -> Result<Vec<u8>, Fail> {
+    let mut script = MemSource::new(lines);
     let mut out = MemSink::new(rt.alloc());
     if answer_script(session, &mut script, &mut out).is_err() {
         return Err("the memory failed".into());
@@ -152,32 +157,65 @@ fn answers(rt: &HostRuntime, session: &mut Session, lines: &str) -> Result<Vec<u
     Ok(out.bytes().to_vec(rt.alloc())?)
 }
 
-/// Does what goes before a request, and says whether all of it was accepted.
-fn prepares(rt: &HostRuntime, session: &mut Session, before: &str) -> Result<bool, Fail> {
-    let mut written = answers(rt, session, START)?;
+/// What goes before a request, line by line.
+fn lines_before(rt: &HostRuntime, before: &str) -> Result<Vec<u8>, Fail> {
+    let mut lines = START.as_bytes().to_vec(rt.alloc())?;
     for line in before.split(';') {
-        written.extend_from_slice(&answers(rt, session, line)?)?;
+        lines.extend_from_slice(line.as_bytes())?;
+        lines.push(b'\n')?;
     }
-    Ok(
-        written
-            .split(|byte| *byte == b'\n')
-            .all(|line| line.is_empty() || line.starts_with(b"ok ")),
-    )
+    Ok(lines)
 }
 
-/// The rooms, without any more where the situation names them.
-fn rooms_in(situation: &str, board: &Board) -> Rooms {
-    let mut rooms = ROOMS;
-    if situation.contains("pieces") {
-        rooms.pieces = board.pieces().pieces().clamp(1, ROOMS.pieces);
+fn are_accepted(answers: &[u8]) -> bool {
+    answers
+        .split(|byte| *byte == b'\n')
+        .all(|line| line.is_empty() || line.starts_with(b"ok "))
+}
+
+/// The session behind what goes before a request, all of which has to be accepted.
+fn prepared(rt: &HostRuntime, rooms: Rooms, is_tight: bool, before: &str) -> Result<Session, Fail>
+    requires { AreRooms rooms }
+{
+    let lines = lines_before(rt, before)?;
+    let mut session = session(rt, rooms, is_tight)?;
+    let answers = answers(rt, &mut session, &lines)?;
+    if !are_accepted(&answers) {
+        return Err("what goes before isn't accepted".into());
     }
-    if situation.contains("holders") {
-        rooms.holders = board.holders().len().clamp(1, ROOMS.holders);
+    Ok(session)
+}
+
+/// A room, of which there is just what was used where it is full.
+fn room(is_full: bool, used: u32, room: u32) -> u32
+    requires { 1 ≤ room }
+    ensures least { 1 ≤ result }
+    ensures most { result ≤ room }
+{
+    if is_full { used.clamp(1, room) } else { room }
+}
+
+/// The rooms in a situation, after what goes before.
+fn rooms_in(situation: &str, session: &Session) -> Rooms
+    ensures { AreRooms result }
+{
+    let board = &session.board;
+    let (pieces, holders) = (board.pieces().pieces(), board.holders().len());
+    let entries = board.entries() as u32;
+    Rooms {
+        pieces: room(situation.contains("pieces"), pieces, ROOMS.pieces),
+        holders: room(situation.contains("holders"), holders, ROOMS.holders),
+        entries: u64::from(room(situation.contains("entries"), entries, 1_000_000)),
+        ..ROOMS
     }
-    if situation.contains("entries") {
-        rooms.entries = board.entries().clamp(1, ROOMS.entries);
-    }
-    rooms
+}
+
+/// The rooms of a row.
+fn row_rooms(rt: &HostRuntime, situation: &str, is_tight: bool, before: &str) -> Result<Rooms, Fail>
+    ensures { IfOk result AreRooms }
+{
+    let session = prepared(rt, ROOMS, is_tight, before)?;
+    Ok(rooms_in(situation, &session))
 }
 
 /// Whether the row's request is refused as it says, for the first of the reasons.
@@ -193,15 +231,12 @@ fn is_refused(rt: &HostRuntime, row: &str) -> Result<bool, Fail> {
         return Ok(false);
     };
     let is_tight = situation.contains("tight");
-    let mut ample = session(rt, ROOMS, is_tight)?;
-    let is_prepared = prepares(rt, &mut ample, before)?;
-    let rooms = rooms_in(situation, &ample.board);
-    let mut session = session(rt, rooms, is_tight)?;
-    let is_prepared = is_prepared && prepares(rt, &mut session, before)?;
-    let answer = answers(rt, &mut session, request)?;
+    let rooms = row_rooms(rt, situation, is_tight, before)?;
+    let mut session = prepared(rt, rooms, is_tight, before)?;
+    let answer = answers(rt, &mut session, request.as_bytes())?;
     let wanted = format!(in rt.alloc(); "refused {refusal}\n")?;
     let is_first = reasons.split(' ').next() == refusal.split(' ').next();
-    Ok(is_prepared && is_first && answer.as_slice() == wanted.as_bytes())
+    Ok(is_first && answer.as_slice() == wanted.as_bytes())
 }
 
 #[test]
