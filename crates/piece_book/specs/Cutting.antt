@@ -1,9 +1,8 @@
 -- Where a piece may be parted in two, and where two may be made one.
-use Rattle.std.specs.Prelude.{◌≡◌, ℕ, ◌-◌, ◌<◌, ◌&&◌, ◌==◌, false, nat_lt, nat_le, if◌then◌else◌, List, [], ◌∷◌, MatchOption}
-use Rattle.std.specs.List.{flat_map}
+use Rattle.std.specs.Prelude.{◌≡◌, ℕ, ◌-◌, ◌<◌, false, List, MatchOption}
 use Rattle.reg_entry.specs.declared.piece.Piece.{Piece}
 use Rattle.reg_entry.specs.Card.{is_available}
-use Rattle.reg_entry.specs.Pieces.{piece_at, joined_pair}
+use Rattle.reg_entry.specs.Pieces.{piece_at}
 
 -- the number lies in a piece that isn't available, and isn't its first
 abbrev pub IsSplitPlace : List Piece → ℕ → Type 0

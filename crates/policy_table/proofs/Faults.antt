@@ -1,5 +1,5 @@
 -- The faults of the definitions are those of their keys.
-use Rattle.std.proofs.Common.{◌≡◌, ◌≢◌, ℕ, ℤ, ◌+◌, ◌<◌, ◌≤◌, Bool, true, false, cond, codes, List, Option, Some, None, Result, Ok, Err, lit≤, arith, refl, subst}
+use Rattle.std.proofs.Common.{◌≡◌, ◌≢◌, ℕ, ℤ, ◌+◌, ◌<◌, ◌≤◌, Bool, true, false, cond, List, Option, Some, None, Result, Ok, Err, lit≤, arith, subst}
 use Rattle.std.specs.Prelude.{IfErr}
 use Rattle.num_range.specs.declared.space.Space.{Space}
 use Rattle.num_range.specs.declared.space.Space.TheVariants.{Asn, Ipv4, Ipv6}

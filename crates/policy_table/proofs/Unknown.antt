@@ -1,5 +1,5 @@
 -- No hostmaster is found by a token just where none has it.
-use Rattle.std.proofs.Common.{◌≡◌, ℕ, Bool, true, false, ◌||◌, cond, bytes_eq, List, [], ◌∷◌, Option, Some, None, IsNone, option_map, refl}
+use Rattle.std.proofs.Common.{◌≡◌, ℕ, true, false, ◌||◌, cond, bytes_eq, List, [], ◌∷◌, Option, Some, IsNone, option_map, refl}
 use Rattle.std.specs.List.{find, list_any}
 
 abbrev found : List ℕ → List (List ℕ × List ℕ) → Option (List ℕ)

@@ -1,5 +1,5 @@
 -- What the file allows of each kind of delegation, a row for each.
-use Rattle.std.specs.Prelude.{ℕ, ◌+◌, ◌*◌, ◌^◌, Bool, ◌||◌, bytes_eq, if◌then◌else◌, codes, List, [], ◌∷◌, Result, Ok, Err}
+use Rattle.std.specs.Prelude.{ℕ, ◌+◌, ◌*◌, ◌^◌, Bool, ◌||◌, bytes_eq, if◌then◌else◌, codes, List, Result, Ok, Err}
 use Rattle.std.specs.List.{list_all, list_any}
 use Rattle.num_range.specs.declared.space.Space.{Space}
 use Rattle.num_range.specs.declared.space.Space.TheVariants.{Asn, Ipv4, Ipv6}

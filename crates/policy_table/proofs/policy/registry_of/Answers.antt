@@ -1,4 +1,4 @@
-use Rattle.std.proofs.Common.{rules, sym, ◌∙◌}
+use Rattle.std.proofs.Common.{sym, ◌∙◌}
 use Rattle.policy_table.proofs.Registry.{registry_read}
 use Rattle.policy_table.proofs.policy.registry_of.Goals as goal
 

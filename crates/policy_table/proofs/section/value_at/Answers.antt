@@ -1,4 +1,4 @@
-use Rattle.std.proofs.Common.{◌∙◌, sym, ap}
+use Rattle.std.proofs.Common.{ap}
 use Rattle.toml.proofs.Views.{table_get}
 use Rattle.policy_table.specs.declared.fault.PolicyFault.TheVariants.{Missing}
 use Rattle.policy_table.specs.Section.{or_fault}

@@ -1,4 +1,4 @@
-use Rattle.std.proofs.Common.{◌≡◌, ◌<◌, ◌≤◌, length, None, arith, rules, sym, ap, ◌∙◌}
+use Rattle.std.proofs.Common.{◌≡◌, ◌<◌, length, None, arith, rules, sym, ◌∙◌}
 use Rattle.toml.specs.View.{view}
 use Rattle.policy_table.specs.Section.{text_of}
 use Rattle.policy_table.proofs.Hosts.{texts, text_in, count_of, chosen, not_chosen, placed, refused}

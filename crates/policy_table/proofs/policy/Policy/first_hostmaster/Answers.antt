@@ -1,4 +1,4 @@
-use Rattle.std.proofs.Common.{◌≡◌, ◌<◌, length, rules}
+use Rattle.std.proofs.Common.{◌≡◌, rules}
 use Rattle.policy_table.specs.Policy.{first_name}
 use Rattle.policy_table.proofs.Least.{least_name}
 use Rattle.policy_table.proofs.policy.Policy.first_hostmaster.Goals as goal
