@@ -18,10 +18,7 @@ ghost use Rattle.board.specs.Free.{reaches_free};
 use crate::Board;
 use crate::amounts::{amount_size, has_size};
 use num_range::{Number, Range, Space};
-use reg_entry::{Card, Entry, Piece, Request};
-
-/// The greatest day that the register knows, 9999-12-31.
-const LAST_DATE: u32 = 2_932_896;
+use reg_entry::{Card, Entry, LAST_DATE, Piece, Request};
 
 /// Where an entry's cover starts.
 fn start_of(cover: &Option<Range>) -> Option<u128>

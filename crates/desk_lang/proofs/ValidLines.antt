@@ -15,7 +15,7 @@ use Rattle.addr_text.proofs.Valid.{number_valid, range_valid}
 use Rattle.reg_entry.specs.declared.request.Request.{Request as ARequest}
 use Rattle.reg_entry.specs.declared.request.Request.TheVariants.{SetReverse}
 use Rattle.reg_entry.specs.Host.{is_host}
-use Rattle.reg_entry.specs.Request.{has_size, is_range, is_number, are_servers, is_request}
+use Rattle.reg_entry.specs.Request.{has_size, is_range, is_number, are_servers, is_request, IsSizedRequest}
 use Rattle.desk_lang.specs.declared.line.Line.{Line}
 use Rattle.desk_lang.specs.declared.line.Line.TheVariants.{Due, Nothing}
 use Rattle.desk_lang.specs.declared.verb.Verb.{Verb}
@@ -25,7 +25,7 @@ use Rattle.desk_lang.specs.declared.rest.Form.TheVariants.{Plain}
 use Rattle.desk_lang.specs.declared.rest.Malformed.{Malformed}
 use Rattle.desk_lang.specs.Words.{PlainRest, PlainWord, rest_at, first_word, same_form, malformed_at, next_word, next_value, value_of_word, ended, at_end, ◌>>=◌}
 use Rattle.desk_lang.specs.Values.{label_of, spelled_amount, amount_of}
-use Rattle.desk_lang.specs.Grammar.{range_line, number_line, range_and_handle, holder_line, delegate_line, transfer_line, more_hosts, reverse_line, day_line, by_line, requested, verb_of, line_of_verb, is_comment, line_of_first, line_of_word, line_of, IsSizedRequest, IsValidLine}
+use Rattle.desk_lang.specs.Grammar.{range_line, number_line, range_and_handle, holder_line, delegate_line, transfer_line, more_hosts, reverse_line, day_line, by_line, requested, verb_of, line_of_verb, is_comment, line_of_first, line_of_word, line_of, IsValidLine}
 
 -- ---- what holds of values that are read
 

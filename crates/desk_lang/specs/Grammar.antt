@@ -13,7 +13,7 @@ use Rattle.reg_entry.specs.Handle.{is_handle}
 use Rattle.reg_entry.specs.Host.{is_host}
 use Rattle.reg_entry.specs.Name.{is_name}
 use Rattle.reg_entry.specs.Text.{is_text}
-use Rattle.reg_entry.specs.Request.{has_size, is_request, is_number}
+use Rattle.reg_entry.specs.Request.{is_request, is_number, IsSizedRequest}
 use Rattle.desk_lang.specs.declared.line.Line.{Line}
 use Rattle.desk_lang.specs.declared.line.Line.TheVariants.{Request, Show, Due, Day, By, Nothing}
 use Rattle.desk_lang.specs.declared.verb.Verb.{Verb}
@@ -167,10 +167,6 @@ line_of_word (Some word) =
     else Err (malformed_at word.place)
 
 -- a Delegate asks for an amount that has a size
-abbrev pub IsSizedRequest : ARequest → Type 0
-IsSizedRequest (Delegate space amount status handle) = has_size space amount ≡ true
-IsSizedRequest request = Unit {0}
-
 abbrev pub IsSizedLine : Line → Type 0
 IsSizedLine (Request request) = IsSizedRequest request
 IsSizedLine line = Unit {0}

@@ -6,7 +6,7 @@ ghost use Rattle.desk_lang.specs.declared.rest.Form.TheVariants.{Plain};
 ghost use Rattle.desk_lang.specs.EntryReading.{IsHolderNumber, IsWritableCover, IsWritableCard, IsWritableEntry, SpellsEntry, optional, card_day_of, seq_of, status_of_word, card_of_words, request_of_rest, entry_line};
 ghost use Rattle.reg_entry.specs.Days.{last_date};
 ghost use Rattle.desk_lang.specs.EntryText.{CardHasDates, entry_text};
-ghost use Rattle.desk_lang.specs.Grammar.{IsSizedRequest};
+ghost use Rattle.reg_entry.specs.Request.{IsSizedRequest};
 ghost use Rattle.desk_lang.specs.Values.{decimal_of};
 ghost use Rattle.desk_lang.specs.Words.{next_value};
 
@@ -18,10 +18,7 @@ use addr_text::{read_decimal, read_range};
 use arrayvec::ArrayVec;
 use itoa::Buffer;
 use num_range::Range;
-use reg_entry::{Card, Entry, Request, Status, read_day};
-
-/// 9999-12-31, the last day that is written.
-const LAST_DATE: u32 = 2_932_896;
+use reg_entry::{Card, Entry, LAST_DATE, Request, Status, read_day};
 
 /// What a word stands for of which `-` is nothing.
 fn read_cover(word: &[u8]) -> Option<Option<Range>>

@@ -3,7 +3,8 @@ ghost use Rattle.std.specs.Prelude.{◌≡◌, ◌∷◌, [], ◌&&◌, nat_lt, 
 ghost use Rattle.std.specs.Option.{is_some};
 ghost use Rattle.desk_lang.specs.Words.{first_word};
 ghost use Rattle.reg_entry.specs.Days.{last_date};
-ghost use Rattle.desk_lang.specs.Grammar.{range_line, number_line, range_and_handle, holder_line, delegate_line, transfer_line, day_line, by_line, more_hosts, reverse_line, line_of_verb, is_comment, line_of, IsSizedRequest, IsSizedLine, IsDatedLine};
+ghost use Rattle.reg_entry.specs.Request.{IsSizedRequest};
+ghost use Rattle.desk_lang.specs.Grammar.{range_line, number_line, range_and_handle, holder_line, delegate_line, transfer_line, day_line, by_line, more_hosts, reverse_line, line_of_verb, is_comment, line_of, IsSizedLine, IsDatedLine};
 
 use crate::rest::{Malformed, Rest};
 use crate::verb::{Verb, read_verb};

@@ -1,5 +1,5 @@
 //! Which requests have a text that is read again: all whose amount can be asked for.
-ghost use Rattle.desk_lang.specs.Grammar.{IsSizedRequest};
+ghost use Rattle.reg_entry.specs.Request.{IsSizedRequest};
 ghost use Rattle.desk_lang.specs.Writable.{AreWritableHosts, IsWritableHolder, IsWritable};
 
 use reg_entry::{Holder, Host, Request};

@@ -1,5 +1,5 @@
 -- Requests: what their words mean apart from any register.
-use Rattle.std.specs.Prelude.{ℕ, Bool, true, ◌&&◌, nat_le, List, length}
+use Rattle.std.specs.Prelude.{◌≡◌, ℕ, Bool, true, ◌&&◌, nat_le, List, length}
 use Rattle.num_range.specs.Number.{PlainNumber}
 use Rattle.num_range.specs.Range.{PlainRange}
 use Rattle.num_range.specs.declared.space.Space.{Space}
@@ -29,6 +29,11 @@ abbrev pub has_size : Space → ℕ → Bool
 has_size Asn amount = nat_le 1 amount && nat_le amount 1024
 has_size Ipv4 amount = nat_le amount 32
 has_size Ipv6 amount = nat_le 3 amount && nat_le amount 128
+
+-- the amount of a Delegate is one that can be asked for
+abbrev pub IsSizedRequest : Request → Type 0
+IsSizedRequest (Delegate space amount status handle) = has_size space amount ≡ true
+IsSizedRequest request = Unit {0}
 
 -- the numbers of a range are its space's
 abbrev pub is_range : PlainRange → Bool

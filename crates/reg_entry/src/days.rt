@@ -1,9 +1,19 @@
 //! Days as they are written: YYYYMMDD, on the calendar of ISO 8601.
 ghost use Rattle.std.specs.Prelude.{◌≡◌, ℕ, ◌+◌, ◌<◌, ◌≤◌, ◌↔◌, pos, ◌≤ℤ◌, IsSome, IfSome};
 ghost use Rattle.jiff_core.specs.Date.{epoch_day};
-ghost use Rattle.reg_entry.specs.Days.{last_date, date_text, day_text, digit_pair, date_of_text, day_of_text, SpellsDay, IsDateOfDay};
+ghost use Rattle.reg_entry.specs.Days.{last_date, clamped_day, date_text, day_text, digit_pair, date_of_text, day_of_text, SpellsDay, IsDateOfDay};
 
 use jiff_core::civil::Date;
+
+/// The greatest day that the register knows, 9999-12-31.
+pub const LAST_DATE: u32 = 2_932_896;
+
+/// A clock's day as the register takes it: from 1970-01-02 to 9999-12-31.
+pub fn clamped_day(day: u32) -> u32
+    ensures { result ≡ clamped_day day }
+{
+    day.clamp(1, LAST_DATE)
+}
 
 /// The digit for a number below 10.
 fn digit(n: u32) -> u8

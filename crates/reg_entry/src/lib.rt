@@ -28,7 +28,7 @@ mod touched;
 
 pub use card::{Card, Status};
 pub use cc::Cc;
-pub use days::{day_text, read_day};
+pub use days::{LAST_DATE, clamped_day, day_text, read_day};
 pub use entry::{Entry, Reply};
 pub use found::Found;
 pub use handle::Handle;

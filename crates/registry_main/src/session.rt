@@ -15,8 +15,8 @@ use desk_lang::{Line, read_line};
 use num_range::Number;
 use piece_book::PieceBook;
 use policy_table::Policy;
-use reg_entry::{Handle, Name, Piece, Refusal, Reply, Request, Rooms};
-use request_core::{clamped_day, decide};
+use reg_entry::{Handle, Name, Piece, Refusal, Reply, Request, Rooms, clamped_day};
+use request_core::decide;
 use std::alloc::{AllocError, Global};
 use std::marker::Model;
 

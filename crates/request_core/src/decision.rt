@@ -6,7 +6,7 @@ ghost use Rattle.reg_entry.specs.declared.entry.Reply.TheVariants.{Accepted};
 ghost use Rattle.reg_entry.specs.Decision.{decision, first_of, unknown_hostmaster, early_rules, policy_rules, late_refusal, refusal_of, proposed_entry, IfAccepted};
 ghost use Rattle.reg_entry.specs.Next.{IsNextEntry};
 ghost use Rattle.board.specs.Kinds.{is_of_pieces_or_holders};
-ghost use Rattle.request_core.specs.Sized.{IsSizedRequest};
+ghost use Rattle.reg_entry.specs.Request.{IsSizedRequest};
 
 use crate::policy_rules::policy_refusal;
 use crate::proposal::proposed_entry;

@@ -9,4 +9,3 @@ mod proposal;
 mod tests;
 
 pub use decision::decide;
-pub use proposal::clamped_day;

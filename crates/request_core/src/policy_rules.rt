@@ -5,9 +5,8 @@ ghost use Rattle.reg_entry.specs.Covers.{first_number};
 ghost use Rattle.reg_entry.specs.Holders.{holder_named};
 ghost use Rattle.reg_entry.specs.Policy.{PlainRows, row_in, policy_row, lists_kind, IsRowOf};
 ghost use Rattle.reg_entry.specs.Register.{piece_of};
-ghost use Rattle.reg_entry.specs.Request.{has_size, status_of};
+ghost use Rattle.reg_entry.specs.Request.{has_size, status_of, IsSizedRequest};
 ghost use Rattle.reg_entry.specs.Decision.{first_of, on_piece, amount_out_of_policy, kind_left_out, over_cap, under_used, delegate_rules, transferred_size, transfer_rules, policy_rules};
-ghost use Rattle.request_core.specs.Sized.{IsSizedRequest};
 
 use board::{Board, amount_size, first_number, refuse_if};
 use num_range::{Range, Space};

@@ -3,25 +3,15 @@ ghost use Rattle.std.specs.Prelude.{◌≡◌, None};
 ghost use Rattle.num_range.specs.Number.{PlainNumber};
 ghost use Rattle.reg_entry.specs.declared.request.Request.TheVariants.{Split};
 ghost use Rattle.reg_entry.specs.Covers.{chosen_start};
-ghost use Rattle.reg_entry.specs.Days.{clamped_day, days_later};
+ghost use Rattle.reg_entry.specs.Days.{days_later};
 ghost use Rattle.reg_entry.specs.Decision.{entry_day, until_for, proposed_entry};
 ghost use Rattle.board.specs.Starts.{MayStartAt};
-ghost use Rattle.request_core.specs.Sized.{IsSizedRequest};
+ghost use Rattle.reg_entry.specs.Request.{IsSizedRequest};
 
 use crate::least_block::least_block;
 use board::{Board, amount_size};
 use policy_table::Policy;
-use reg_entry::{Entry, Name, Request};
-
-/// The greatest day that the register knows, 9999-12-31.
-const LAST_DATE: u32 = 2_932_896;
-
-/// A clock's day as the register takes it: from 1970-01-02 to 9999-12-31.
-pub fn clamped_day(day: u32) -> u32
-    ensures { result ≡ clamped_day day }
-{
-    day.clamp(1, LAST_DATE)
-}
+use reg_entry::{Entry, LAST_DATE, Name, Request, clamped_day};
 
 /// So many days later, or the greatest day.
 fn days_later(day: u32, days: u32) -> u32
