@@ -9,7 +9,7 @@ use crate::samples::{FREE_ROW, TIGHT_ROW, policy_of};
 use link_face::{MemSink, MemSource};
 use std::test::Fail;
 
-/// What goes before each row: a network, half of it delegated, two registries and an end user.
+/// What goes before each row: a network, half of it delegated, two local registries and an end user.
 const START: &str = r#"
 day 20240301
 receive 192.0.2.0/24
