@@ -1,5 +1,4 @@
-pub mod Blocks
-pub mod Found
+pub mod FoundPieces
 pub mod Missing
 pub mod Known
 pub mod Splitting

@@ -4,23 +4,23 @@ use Rattle.std.proofs.lemmas.Bool.{cases_Bool, cond-true, cond-false, le-leb, lt
 use Rattle.std.proofs.lemmas.Option.{none-some, same_Some}
 use Rattle.num_range.specs.declared.space.Space.{Space}
 use Rattle.reg_entry.specs.declared.piece.Piece.{Piece}
-use Rattle.reg_entry.specs.Pieces.{holds, piece_at, RisesFrom, AllPiecesOf}
+use Rattle.reg_entry.specs.Pieces.{piece_holds, piece_at, RisesFrom, AllPiecesOf}
 use Rattle.reg_entry.specs.Decision.{least_missing}
 use Rattle.reg_entry.proofs.Holding.{holds_true, not_held_above, piece_at-first, piece_at-rest}
-use Rattle.board.proofs.Found.{found_in}
+use Rattle.board.proofs.FoundPieces.{found_in}
 
-here : (q : Piece) (qs : List Piece) (x last : ℕ) → holds q x ≡ true → least_missing (q ∷ qs) x last ≡ least_missing qs (q.range.last + 1) last
-here q qs x last t = ap (λ y. least_missing qs y last) (cond-true (holds q x) (q.range.last + 1) x t)
+here : (q : Piece) (qs : List Piece) (x last : ℕ) → piece_holds q x ≡ true → least_missing (q ∷ qs) x last ≡ least_missing qs (q.range.last + 1) last
+here q qs x last t = ap (λ y. least_missing qs y last) (cond-true (piece_holds q x) (q.range.last + 1) x t)
 
-past : (q : Piece) (qs : List Piece) (x last : ℕ) → holds q x ≡ false → least_missing (q ∷ qs) x last ≡ least_missing qs x last
-past q qs x last f = ap (λ y. least_missing qs y last) (cond-false (holds q x) (q.range.last + 1) x f)
+past : (q : Piece) (qs : List Piece) (x last : ℕ) → piece_holds q x ≡ false → least_missing (q ∷ qs) x last ≡ least_missing qs x last
+past q qs x last f = ap (λ y. least_missing qs y last) (cond-false (piece_holds q x) (q.range.last + 1) x f)
 
 -- from a number that a piece holds the search goes on behind the piece
 pub missing_behind : (space : Space) (low : ℕ) (ps : List Piece) (x last : ℕ) (p : Piece) → RisesFrom low ps → AllPiecesOf space ps
     → piece_at ps x ≡ Some p → least_missing ps x last ≡ least_missing ps (p.range.last + 1) last
 missing_behind space low [] x last p rises each e = absurd (none-some p e)
 missing_behind space low (q ∷ qs) x last p rises each e =
-    elim (cases_Bool (holds q x)) [
+    elim (cases_Bool (piece_holds q x)) [
       | inl t ↦
           let same : q ≡ p = same_Some q p (sym (piece_at-first q qs x t) ∙ e) in
           here q qs x last t
@@ -41,7 +41,7 @@ missing_behind space low (q ∷ qs) x last p rises each e =
 pub missing_here : (ps : List Piece) (x last : ℕ) → x ≤ last → piece_at ps x ≡ None → least_missing ps x last ≡ Some x
 missing_here [] x last h e = cond-true (nat_le x last) (Some x) None (le-leb x last h)
 missing_here (q ∷ qs) x last h e =
-    elim (cases_Bool (holds q x)) [
+    elim (cases_Bool (piece_holds q x)) [
       | inl t ↦ absurd (none-some q (sym e ∙ piece_at-first q qs x t))
       | inr f ↦ past q qs x last f ∙ missing_here qs x last h (sym (piece_at-rest q qs x f) ∙ e)
     ]
@@ -50,7 +50,7 @@ missing_here (q ∷ qs) x last h e =
 pub missing_past : (ps : List Piece) (x last : ℕ) → last < x → least_missing ps x last ≡ None
 missing_past [] x last h = cond-false (nat_le x last) (Some x) None (lt-leb x last h)
 missing_past (q ∷ qs) x last h =
-    elim (cases_Bool (holds q x)) [
+    elim (cases_Bool (piece_holds q x)) [
       | inl t ↦
           let ends : x ≤ q.range.last = (holds_true q x t).1 in
           here q qs x last t ∙ missing_past qs (q.range.last + 1) last (omega arith)

@@ -5,7 +5,7 @@ use Rattle.std.proofs.lemmas.Option.{none-some}
 use Rattle.num_range.specs.declared.space.Space.{Space}
 use Rattle.num_range.specs.declared.space.Space.TheVariants.{Asn, Ipv4, Ipv6}
 use Rattle.reg_entry.specs.declared.piece.Piece.{Piece}
-use Rattle.reg_entry.specs.Pieces.{holds, piece_at, RisesFrom}
+use Rattle.reg_entry.specs.Pieces.{piece_holds, piece_at, RisesFrom}
 use Rattle.num_range.specs.Number.{PlainNumber}
 use Rattle.reg_entry.specs.Partition.{Partition, pieces_in, with_pieces, piece_count, IsPartition}
 use Rattle.reg_entry.specs.Reshaping.{holds_past_first, split_piece, split_at_number}
@@ -31,7 +31,7 @@ length_split low (q ∷ qs) at o rises e =
     let parts : length (split_at_number (q ∷ qs) at) ≡ length (split_piece at q) + length (split_at_number qs at) =
     length-append (split_piece at q) (split_at_number qs at) in
     let first : length (split_piece at q) ≡ 1 + cond (holds_past_first q at) 1 0 = one_or_two q at in
-    elim (cases_Bool (holds q at)) [
+    elim (cases_Bool (piece_holds q at)) [
       | inl t ↦
           let h = holds_true q at t in
           let begins : q.range.first ≤ at = h.0 in
@@ -54,7 +54,7 @@ length_split low (q ∷ qs) at o rises e =
     and_true true b e = e
     and_true false b e = refl
 
-    not_past : (q : Piece) (at : ℕ) → holds q at ≡ false → holds_past_first q at ≡ false
+    not_past : (q : Piece) (at : ℕ) → piece_holds q at ≡ false → holds_past_first q at ≡ false
     not_past q at f =
         elim (cases_Bool (holds_past_first q at)) [
           | inr g ↦ g

@@ -27,9 +27,9 @@ use Rattle.piece_book.specs.Book.{PlainBook}
 use Rattle.piece_book.specs.Cutting.{IsSplitPlace, IsJoinPlace}
 use Rattle.holder_book.specs.Book.{PlainHolderBook}
 use Rattle.holding_book.specs.Book.{PlainHoldingBook, held_in, allocated_in}
-use Rattle.reg_laws.specs.Holdings.{held_by, held_by_card, allocated_by, allocated_by_card}
+use Rattle.reg_entry.specs.Holdings.{held_by, held_by_card, allocated_by, allocated_by_card}
 use Rattle.reg_laws.specs.Reached.{IsReached}
-use Rattle.reg_laws.specs.Reshaping.{CanJoinAt}
+use Rattle.reg_entry.specs.Reshaping.{CanJoinAt}
 use Rattle.board.specs.declared.board.Board.TheInside.{Inside as BoardInside}
 use Rattle.reg_entry.specs.declared.entry.Entry.TheInside.{Inside as EntryInside}
 use Rattle.board.specs.Kinds.{is_of_pieces_or_holders}

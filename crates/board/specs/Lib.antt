@@ -1,6 +1,6 @@
 pub mod Kinds
 pub mod Kept
-pub mod Found
+pub mod FoundPiece
 pub mod Starts
 pub mod Free
 pub mod Conserved

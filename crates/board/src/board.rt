@@ -1,14 +1,13 @@
 //! The register of a list of entries, kept so that no request walks over all of it.
-ghost use Rattle.std.specs.Prelude.{◌≡◌, ℕ, ◌+◌, ◌<◌, ◌≤◌, ◌^◌, ◌==◌, if◌then◌else◌, true, [], length, IsSome, IfOk};
+ghost use Rattle.std.specs.Prelude.{◌≡◌, ℕ, ◌+◌, ◌<◌, ◌≤◌, ◌^◌, ◌==◌, ◌++◌, ◌∷◌, if◌then◌else◌, true, [], length, IsSome, IfOk};
 ghost use Rattle.num_range.specs.declared.space.Space.{Space as TheSpace};
 ghost use Rattle.reg_entry.specs.Covers.{first_number};
 ghost use Rattle.reg_entry.specs.Holders.{holder_number, edited_holder};
 ghost use Rattle.reg_entry.specs.Register.{card_of};
-ghost use Rattle.reg_laws.specs.Holdings.{gives_held, held_by, allocated_by, held_by_card, allocated_by_card};
+ghost use Rattle.reg_entry.specs.Holdings.{gives_held, held_by, allocated_by, held_by_card, allocated_by_card};
 ghost use Rattle.holding_book.specs.Book.{held_in, allocated_in};
 ghost use Rattle.reg_entry.specs.Rooms.{AreRooms};
 
-use crate::conditions::first_number;
 use holder_book::HolderBook;
 use holding_book::HoldingBook;
 use num_range::{Range, Space};
@@ -24,7 +23,8 @@ use reg_laws::painting::{
     next_entries_split_delegated_pieces,
 };
 use reg_laws::reached::{
-    entries_reach_registers, reached_registers_are_whole, reached_registers_conserve,
+    entries_reach_registers, last_cards_change_inside_covers, reached_registers_are_whole,
+    reached_registers_conserve, reached_registers_count,
 };
 use std::alloc::{AllocError, Global};
 use std::marker::Model;
@@ -42,12 +42,14 @@ pub struct Board {
 }
 
 impl Model for Board {
-    ghost use Rattle.reg_entry.specs.Register.{Register};
+    ghost use Rattle.std.specs.Prelude.{[]};
+    ghost use Rattle.reg_entry.specs.Operations.{PlainBoard};
     ghost use Rattle.board.specs.Kept.{register_of, IsKeptIn};
 
-    ghost Value = { Register };
+    ghost Value = { PlainBoard };
 
-    ghost view = { λ b. register_of b.rooms b.entries b.first_day b.last_day b.pieces b.holders };
+    // No operations are kept yet.
+    ghost view = { λ b. record { register = register_of b.rooms b.entries b.first_day b.last_day b.pieces b.holders; serial = 0; kept = [] } };
 
     ghost invariant = { λ b. IsKeptIn (register_of b.rooms b.entries b.first_day b.last_day b.pieces b.holders) b.pieces.room b.holders.room b.holdings };
 }
@@ -74,7 +76,7 @@ fn edit(holders: &mut HolderBook, holder: &Holder, day: u32)
 fn former_card(pieces: &PieceBook, range: &Range) -> Option<Card>
     ensures { result ≡ card_of pieces.now.partition (first_number range.now) }
 {
-    Some(pieces.piece_at(first_number(range))?.card)
+    Some(pieces.piece_at(range.first_number())?.card)
 }
 
 /// The numbers of the range, which had one card, have another.
@@ -101,20 +103,21 @@ fn exchange(holdings: &mut HoldingBook, range: &Range, former: &Option<Card>, ca
 }
 
 impl Board {
-    ghost use Rattle.reg_entry.specs.Register.{empty_register, after_entry};
+    ghost use Rattle.reg_entry.specs.Register.{after_entry};
+    ghost use Rattle.reg_entry.specs.Operations.{empty_board};
     ghost use Rattle.reg_entry.specs.Sums.{held, allocated};
     ghost use Rattle.reg_entry.specs.Next.{IsNextEntry};
     ghost use Rattle.reg_entry.specs.Whole.{IsWholeRegister};
     ghost use Rattle.std.specs.Prelude.{List};
     ghost use Rattle.reg_entry.specs.Entry.{PlainEntry};
     ghost use Rattle.board.specs.Kinds.{is_of_pieces_or_holders};
-    ghost use Rattle.board.specs.Conserved.{IsConservedBy};
-    ghost use Rattle.reg_laws.specs.Reached.{IsReached};
+    ghost use Rattle.board.specs.Conserved.{IsConservedBy, ChangesCards};
+    ghost use Rattle.reg_laws.specs.Reached.{IsReached, IsRegisterOf};
 
     /// The register of no entry. Making it takes memory, and nothing after that does.
     pub fn with_room(alloc: Global, rooms: Rooms) -> Result<Board, AllocError>
         requires { AreRooms rooms }
-        ensures { IfOk result (λ board. board ≡ empty_register rooms) }
+        ensures { IfOk result (λ board. board ≡ empty_board rooms) }
     {
         Ok(Board {
             pieces: PieceBook::with_room(alloc, rooms.pieces)?,
@@ -127,11 +130,26 @@ impl Board {
         })
     }
 
-    /// Takes in the next entry.
+    /// Takes in the next entry. Where legal entries gave the register, they and this one give the new one; of each number
+    /// that lies outside the entry's cover the last card stays, and of every number where the entry cuts or joins pieces.
     pub fn apply(&mut self, e: &Entry)
         requires kind { is_of_pieces_or_holders e.now.request ≡ true }
-        requires next { IsNextEntry self.old e.now }
-        ensures register { self.new ≡ after_entry self.old e.now }
+        requires next { IsNextEntry self.old.register e.now }
+        ensures register { self.new.register ≡ after_entry self.old.register e.now }
+        ensures entries { (es : List PlainEntry) → IsRegisterOf self.old.register es
+            → IsRegisterOf self.new.register (es ++ e.now ∷ []) × ChangesCards es e.now }
+    {
+        // Laws, for `entries`.
+        entries_reach_registers();
+        last_cards_change_inside_covers();
+        self.take_in(e);
+    }
+
+    /// Changes the books as the entry says.
+    fn take_in(&mut self, e: &Entry)
+        requires kind { is_of_pieces_or_holders e.now.request ≡ true }
+        requires next { IsNextEntry self.old.register e.now }
+        ensures { self.new.register ≡ after_entry self.old.register e.now }
     {
         // Laws: what the next entry asks of the books, and what it keeps.
         entries_reach_registers();
@@ -173,82 +191,101 @@ impl Board {
 
     /// How many numbers of the space are delegated to the holder of this number: 0 where there is no such holder.
     pub fn held(&self, holder: u32, space: Space) -> u128
-        ensures { result ≡ held self.now holder space }
+        ensures { result ≡ held self.now.register holder space }
     {
         self.holdings.held(holder, space)
     }
 
     /// How many of these are allocated, so that the holder makes sub-assignments in them.
     pub fn allocated(&self, holder: u32, space: Space) -> u128
-        ensures { result ≡ allocated self.now holder space }
+        ensures { result ≡ allocated self.now.register holder space }
     {
         self.holdings.allocated(holder, space)
     }
 
     /// The pieces of the three spaces.
     pub fn pieces(&self) -> &PieceBook
-        ensures pool { result.now.partition ≡ self.now.pool }
-        ensures room { result.now.room ≡ self.now.rooms.pieces }
+        ensures pool { result.now.partition ≡ self.now.register.pool }
+        ensures room { result.now.room ≡ self.now.register.rooms.pieces }
     {
         &self.pieces
     }
 
     /// The holders, by their numbers and by their handles.
     pub fn holders(&self) -> &HolderBook
-        ensures holders { result.now.holders ≡ self.now.holders }
-        ensures room { result.now.room ≡ self.now.rooms.holders }
+        ensures holders { result.now.holders ≡ self.now.register.holders }
+        ensures room { result.now.room ≡ self.now.register.rooms.holders }
     {
         &self.holders
     }
 
     /// How many entries there are.
     pub fn entries(&self) -> u64
-        ensures entries { result ≡ self.now.entries }
-        ensures reached { IsReached self.now }
-        ensures whole { IsWholeRegister self.now }
-        ensures bound { self.now.entries ≤ 2 ^ 26 }
+        ensures entries { result ≡ self.now.register.entries }
+        ensures bound { result ≤ 2 ^ 26 }
     {
-        // A law, for `whole`.
-        reached_registers_are_whole();
+        self.is_whole();
         self.entries
     }
 
-    /// Tells callers what every board keeps: its register is that of a legal list of entries, in which each number has the
-    /// card of the last entry that painted it, and the pieces of each space have just as many numbers as were received.
-    pub fn conserves_numbers(&self)
-        ensures { (es : List PlainEntry) × IsConservedBy self.now es }
+    /// Tells callers what every board keeps: its register is that of a legal list of entries, and so it is whole in all its
+    /// parts.
+    pub fn is_whole(&self)
+        ensures reached { IsReached self.now.register }
+        ensures whole { IsWholeRegister self.now.register }
+        ensures rooms { AreRooms self.now.register.rooms }
     {
-        // A law.
+        // A law, for `whole`.
+        reached_registers_are_whole();
+        let _ = &self.rooms;
+    }
+
+    /// Tells callers that no number is lost or held twice: the register is that of a legal list of entries; each number has
+    /// the card of the last entry that painted it and lies in just one piece, or in none where none painted it; the numbers
+    /// that lie in a piece are those that were received, and each space has just as many.
+    pub fn conserves_numbers(&self)
+        ensures { (es : List PlainEntry) × IsConservedBy self.now.register es }
+    {
+        // Laws.
         reached_registers_conserve();
+        reached_registers_count();
+        let _ = &self.rooms;
+    }
+
+    /// Tells that no operations are counted or kept yet.
+    pub fn keeps_no_operations(&self)
+        ensures serial { self.now.serial ≡ 0 }
+        ensures kept { self.now.kept ≡ [] }
+    {
         let _ = &self.rooms;
     }
 
     /// The day of the first entry, or 0 where there is none.
     pub fn first_day(&self) -> u32
-        ensures { result ≡ self.now.first_day }
+        ensures { result ≡ self.now.register.first_day }
     {
         self.first_day
     }
 
     /// The day of the last entry, or 0 where there is none.
     pub fn last_day(&self) -> u32
-        ensures { result ≡ self.now.last_day }
+        ensures { result ≡ self.now.register.last_day }
     {
         self.last_day
     }
 
     /// How much the register may keep.
     pub fn rooms(&self) -> Rooms
-        ensures rooms { result ≡ self.now.rooms }
-        ensures bounds { AreRooms self.now.rooms }
+        ensures rooms { result ≡ self.now.register.rooms }
+        ensures bounds { AreRooms self.now.register.rooms }
     {
         self.rooms
     }
 
     /// Tells that there are no subs and no reverse entries yet.
     pub fn has_no_subs(&self)
-        ensures subs { self.now.subs ≡ [] }
-        ensures reverses { self.now.reverses ≡ [] }
+        ensures subs { self.now.register.subs ≡ [] }
+        ensures reverses { self.now.register.reverses ≡ [] }
     {
         let _ = &self.rooms;
     }

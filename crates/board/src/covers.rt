@@ -5,17 +5,15 @@ ghost use Rattle.reg_entry.specs.Register.{piece_of};
 ghost use Rattle.board.specs.Starts.{MayStartAt};
 
 use crate::Board;
-use crate::amounts::amount_size;
-use crate::conditions::{first_number, number_before};
 use num_range::{Number, Range};
 use reg_entry::{Card, Request, Status};
 
 impl Board {
     /// From the first number of the piece before a number to the last of the piece that holds it.
     fn range_across(&self, at: Number) -> Option<Range>
-        ensures { result ≡ across (piece_of self.now.pool (number_before at)) (piece_of self.now.pool at) }
+        ensures { result ≡ across (piece_of self.now.register.pool (number_before at)) (piece_of self.now.register.pool at) }
     {
-        let left = self.piece_of(number_before(at))?;
+        let left = self.piece_of(at.before())?;
         let right = self.piece_of(at)?;
         Some(Range::between(at.space(), left.range.first(), right.range.last()))
     }
@@ -24,7 +22,7 @@ impl Board {
     /// there is one; no other request looks at it.
     pub fn cover_for(&self, request: &Request, start: Option<u128>) -> Option<Range>
         requires { MayStartAt request.now start }
-        ensures { result ≡ cover_for self.now request.now start }
+        ensures { result ≡ cover_for self.now.register request.now start }
     {
         match request {
             Request::Receive { range }
@@ -37,7 +35,7 @@ impl Board {
             | Request::Transfer { range, .. } => Some(*range),
             Request::Delegate { space, amount, .. } => {
                 let first = start?;
-                let size = amount_size(*space, *amount);
+                let size = space.amount_size(*amount);
                 Some(Range::between(*space, first, first + (size - 1)))
             }
             Request::Split { at } => Some(self.piece_of(*at)?.range),
@@ -51,7 +49,7 @@ impl Board {
 
     /// The card that an entry of the request paints on a day, kept up to another where the request has such a day.
     pub fn card_for(&self, request: &Request, day: u32, until: u32) -> Option<Card>
-        ensures { result ≡ card_for self.now request.now day until }
+        ensures { result ≡ card_for self.now.register request.now day until }
     {
         match request {
             Request::Receive { .. } | Request::Unreserve { .. } | Request::Release { .. } => {
@@ -76,7 +74,7 @@ impl Board {
                 until,
             }),
             Request::Transfer { range, to, .. } => Some(Card {
-                status: self.piece_of(first_number(range))?.card.status,
+                status: self.piece_of(range.first_number())?.card.status,
                 holder: self.holders().by_handle(to),
                 day,
                 until,

@@ -6,74 +6,77 @@ ghost use Rattle.reg_entry.specs.Decision.{first_of, early_rules};
 ghost use Rattle.board.specs.Kinds.{is_of_pieces_or_holders};
 
 use crate::Board;
-use crate::conditions::{begins_space, first_number, number_before};
+use crate::conditions::begins_space;
 use crate::pooled::outside_unicast;
 use num_range::{Number, Range};
 use reg_entry::{Handle, Refusal, Request, Status};
 
 impl Board {
     fn return_refusal(&self, range: &Range, handle: &Handle) -> Option<Refusal>
-        ensures { result ≡ first_of (early_rules self.now (Return range.now handle.now)) }
+        ensures { result ≡ first_of (early_rules self.now.register (Return range.now handle.now)) }
     {
         self.outside_pool(range)
-            .or(self.not_one_piece(range))
-            .or(self.not_delegated(first_number(range)))
-            .or(self.unknown_holder(handle))
-            .or(self.not_holder(range, handle))
+            .or_else(|| self.not_one_piece(range))
+            .or_else(|| self.not_delegated(range.first_number()))
+            .or_else(|| self.unknown_holder(handle))
+            .or_else(|| self.not_holder(range, handle))
     }
 
     fn transfer_refusal(&self, range: &Range, from: &Handle, to: &Handle) -> Option<Refusal>
-        ensures { result ≡ first_of (early_rules self.now (Transfer range.now from.now to.now)) }
+        ensures { result ≡ first_of (early_rules self.now.register (Transfer range.now from.now to.now)) }
     {
         self.outside_pool(range)
-            .or(self.not_one_piece(range))
-            .or(self.not_delegated(first_number(range)))
-            .or(self.unknown_holder(from))
-            .or(self.unknown_holder(to))
-            .or(self.not_holder(range, from))
+            .or_else(|| self.not_one_piece(range))
+            .or_else(|| self.not_delegated(range.first_number()))
+            .or_else(|| self.unknown_holder(from))
+            .or_else(|| self.unknown_holder(to))
+            .or_else(|| self.not_holder(range, from))
     }
 
     fn split_refusal(&self, at: Number) -> Option<Refusal>
-        ensures { result ≡ first_of (early_rules self.now (Split at)) }
+        ensures { result ≡ first_of (early_rules self.now.register (Split at)) }
     {
         self.number_outside_pool(at)
-            .or(self.begins_a_piece(at))
-            .or(self.not_delegated(at))
+            .or_else(|| self.begins_a_piece(at))
+            .or_else(|| self.not_delegated(at))
     }
 
     fn join_refusal(&self, at: Number) -> Option<Refusal>
-        ensures { result ≡ first_of (early_rules self.now (Join at)) }
+        ensures { result ≡ first_of (early_rules self.now.register (Join at)) }
     {
         begins_space(at)
-            .or(self.number_outside_pool(at))
-            .or(self.number_outside_pool(number_before(at)))
-            .or(self.begins_no_piece(at))
-            .or(self.not_delegated(at))
-            .or(self.cards_differ(at))
+            .or_else(|| self.number_outside_pool(at))
+            .or_else(|| self.number_outside_pool(at.before()))
+            .or_else(|| self.begins_no_piece(at))
+            .or_else(|| self.not_delegated(at))
+            .or_else(|| self.cards_differ(at))
     }
 
     /// Why the register can't do what is asked for, whatever the day and whatever the policy says, or nothing.
     pub fn early_refusal(&self, request: &Request) -> Option<Refusal>
         requires { is_of_pieces_or_holders request.now ≡ true }
-        ensures { result ≡ first_of (early_rules self.now request.now) }
+        ensures { result ≡ first_of (early_rules self.now.register request.now) }
     {
         match request {
-            Request::Receive { range } => outside_unicast(range).or(self.already_pooled(range)),
+            Request::Receive { range } => outside_unicast(range).or_else(|| self.already_pooled(
+                range,
+            )),
             Request::AddHolder { holder } => self.handle_taken(&holder.handle),
             Request::EditHolder { holder } => self.unknown_holder(&holder.handle),
             Request::Delegate { handle, .. } => self.unknown_holder(handle),
             Request::Reserve { range } => self
                 .outside_pool(range)
-                .or(self.not_in_one_piece(range))
-                .or(self.not_available(first_number(range))),
+                .or_else(|| self.not_in_one_piece(range))
+                .or_else(|| self.not_available(range.first_number())),
             Request::Unreserve { range } => self
                 .outside_pool(range)
-                .or(self.not_one_piece(range))
-                .or(self.not_of_status(first_number(range), Status::Reserved)),
+                .or_else(|| self.not_one_piece(range))
+                .or_else(|| self.not_of_status(range.first_number(), Status::Reserved)),
             Request::Return { range, handle } => self.return_refusal(range, handle),
-            Request::Release { range } => self.outside_pool(range).or(self.not_one_piece(range)).or(
-                self.not_of_status(first_number(range), Status::Quarantine),
-            ),
+            Request::Release { range } => self
+                .outside_pool(range)
+                .or_else(|| self.not_one_piece(range))
+                .or_else(|| self.not_of_status(range.first_number(), Status::Quarantine)),
             Request::Split { at } => self.split_refusal(*at),
             Request::Join { at } => self.join_refusal(*at),
             Request::Transfer { range, from, to } => self.transfer_refusal(range, from, to),

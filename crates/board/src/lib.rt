@@ -1,7 +1,6 @@
 //! The register: what the entries so far amount to, which entry may come next, and the step of one.
 #![tactic(auto)]
 
-mod amounts;
 mod board;
 mod conditions;
 mod covers;
@@ -13,7 +12,6 @@ mod pooled;
 #[cfg(test)]
 mod tests;
 
-pub use amounts::{amount_size, has_size};
 pub use board::Board;
-pub use conditions::{first_number, refuse_if};
 pub use kinds::is_of_pieces_or_holders;
+pub use reg_entry::{Found, Rooms, SubCard};

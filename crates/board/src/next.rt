@@ -16,7 +16,6 @@ ghost use Rattle.board.specs.Starts.{MayStartAt};
 ghost use Rattle.board.specs.Free.{reaches_free};
 
 use crate::Board;
-use crate::amounts::{amount_size, has_size};
 use num_range::{Number, Range, Space};
 use reg_entry::{Card, Entry, LAST_DATE, Piece, Request};
 
@@ -44,17 +43,6 @@ fn until_may_be(request: &Request, day: u32, until: u32) -> bool
     match request {
         Request::Return { .. } | Request::Transfer { .. } => day <= until && until <= LAST_DATE,
         _ => true,
-    }
-}
-
-/// Whether a block may start at a number: AS numbers anywhere, addresses at multiples of the size (RFC 4632 3.1).
-fn is_aligned(space: Space, size: u128, start: u128) -> bool
-    requires { 1 ≤ size }
-    ensures { result ≡ (start % alignment space size == 0) }
-{
-    match space {
-        Space::Asn => true,
-        Space::Ipv4 | Space::Ipv6 => start % size == 0,
     }
 }
 
@@ -91,7 +79,7 @@ fn same_painted(a: &Option<Card>, b: &Option<Card>) -> bool
 
 impl Board {
     fn day_may_be(&self, day: u32) -> bool
-        ensures { result ≡ day_may_be self.now day }
+        ensures { result ≡ day_may_be self.now.register day }
     {
         1 <= day && self.last_day() <= day && day <= LAST_DATE
     }
@@ -100,35 +88,35 @@ impl Board {
     fn has_free(&self, space: Space, first: u128, last: u128) -> bool
         requires ordered { first ≤ last }
         requires within { last ≤ top_of space }
-        ensures { result ≡ list_any (has_free first last) (register_pieces self.now space) }
+        ensures { result ≡ list_any (has_free first last) (register_pieces self.now.register space) }
     {
-        let _whole = self.entries();
+        self.is_whole();
         reaches_free(&self.piece_of(Number::of(space, first)), last)
     }
 
     fn is_free_block(&self, space: Space, size: u128, start: u128) -> bool
         requires least { 1 ≤ size }
         requires most { size ≤ 2 ^ 125 }
-        ensures free { result ≡ is_free_block (register_pieces self.now space) space size start }
+        ensures free { result ≡ is_free_block (register_pieces self.now.register space) space size start }
         ensures within { result ≡ true → start + (size - 1) ≤ top_of space }
     {
         let behind = size - 1;
         let top = space.top();
         behind <= top
             && start <= top - behind
-            && is_aligned(space, size, start)
+            && start % space.alignment(size) == 0
             && self.has_free(space, start, start + behind)
     }
 
     /// Whether an entry may have a block that starts there, if it delegates one.
     fn block_may_be(&self, request: &Request, start: Option<u128>) -> bool
-        ensures block { result ≡ block_may_be self.now request.now start }
+        ensures block { result ≡ block_may_be self.now.register request.now start }
         ensures starts { result ≡ true → MayStartAt request.now start }
     {
         match (request, start) {
             (Request::Delegate { space, amount, .. }, Some(start)) => {
-                has_size(*space, *amount)
-                    && self.is_free_block(*space, amount_size(*space, *amount), start)
+                space.has_size(*amount)
+                    && self.is_free_block(*space, space.amount_size(*amount), start)
             }
             (Request::Delegate { .. }, None) => false,
             _ => true,
@@ -137,7 +125,7 @@ impl Board {
 
     /// Whether the entry has the next number, on a day that may follow.
     fn is_in_turn(&self, e: &Entry) -> bool
-        ensures { result ≡ ((e.now.seq == self.now.entries + 1) && day_may_be self.now e.now.day) }
+        ensures { result ≡ ((e.now.seq == self.now.register.entries + 1) && day_may_be self.now.register e.now.day) }
     {
         e.seq == self.entries() + 1 && self.day_may_be(e.day)
     }
@@ -145,14 +133,14 @@ impl Board {
     /// Whether the entry covers what its request says.
     fn has_its_cover(&self, e: &Entry) -> bool
         requires { MayStartAt e.now.request (start_of e.now.cover) }
-        ensures { result ≡ same_cover e.now.cover (cover_for self.now e.now.request (start_of e.now.cover)) }
+        ensures { result ≡ same_cover e.now.cover (cover_for self.now.register e.now.request (start_of e.now.cover)) }
     {
         same_cover(&e.cover, &self.cover_for(&e.request, start_of(&e.cover)))
     }
 
     /// Whether the entry paints the card that its request says.
     fn has_its_card(&self, e: &Entry) -> bool
-        ensures card { result ≡ same_painted e.now.card (card_for self.now e.now.request e.now.day (until_of e.now.card)) }
+        ensures card { result ≡ same_painted e.now.card (card_for self.now.register e.now.request e.now.day (until_of e.now.card)) }
         ensures split { result ≡ true → (at : PlainNumber) → e.now.request ≡ Split at → e.now.card ≡ None }
     {
         same_painted(
@@ -165,7 +153,7 @@ impl Board {
     /// register is against it. The policy isn't asked, since it may have changed since.
     pub fn is_next(&self, e: &Entry) -> bool
         requires { is_of_pieces_or_holders e.now.request ≡ true }
-        ensures { result ≡ may_come_next self.now e.now }
+        ensures { result ≡ may_come_next self.now.register e.now }
     {
         e.request.has_ranges();
         self.is_in_turn(e)

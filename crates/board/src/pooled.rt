@@ -44,11 +44,11 @@ impl Board {
     /// The least number of the range that no piece holds. Only the pieces that the range meets are looked at.
     #[tactic(auto, using(crate::proofs::Missing::missing_behind, crate::proofs::Missing::missing_here, crate::proofs::Missing::missing_past))]
     fn least_missing(&self, range: &Range) -> Option<u128>
-        ensures value { result ≡ least_missing (register_pieces self.now range.now.space) range.now.first range.now.last }
+        ensures value { result ≡ least_missing (register_pieces self.now.register range.now.space) range.now.first range.now.last }
         ensures within { IfSome result (λ value. value ≤ top_of range.now.space) }
     {
         let (space, last) = (range.space(), range.last());
-        let _valid = self.pieces().pieces();
+        self.pieces().are_pieces();
         let mut value = range.first();
         'pieces: while let Some(piece) = self.piece_of(Number::of(space, value)) {
             let end = piece.range.last();
@@ -61,7 +61,7 @@ impl Board {
     }
 
     pub(crate) fn outside_pool(&self, range: &Range) -> Option<Refusal>
-        ensures { result ≡ outside_pool self.now range.now }
+        ensures { result ≡ outside_pool self.now.register range.now }
     {
         let value = self.least_missing(range)?;
         let number = Number::of(range.space(), value);

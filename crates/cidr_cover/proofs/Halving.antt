@@ -7,12 +7,12 @@ use Rattle.num_range.specs.declared.space.Space.{Space}
 use Rattle.num_range.specs.Space.{width_of}
 use Rattle.num_range.specs.Range.{PlainRange}
 use Rattle.num_range.specs.Block.{block_size, block_of}
-use Rattle.num_range.specs.Cover.{lies_inside, has_some_of, blocks_inside}
+use Rattle.num_range.specs.Cover.{is_part_of, has_some_of, blocks_inside}
 use Rattle.cidr_cover.proofs.Sizes.{size_pos, size_halves, sum_of_multiples, multiples_apart, multiple_of_longer, size_is_multiple}
 
 -- the block of this length that starts here lies inside the range
 abbrev pub is_inside : PlainRange → ℕ → ℕ → Bool
-is_inside r len start = lies_inside (block_of r.space start len) r
+is_inside r len start = is_part_of (block_of r.space start len) r
 
 pub inside_from : (r : PlainRange) (len start : ℕ) → r.first ≤ start → start + (block_size r.space len - 1) ≤ r.last → is_inside r len start ≡ true
 inside_from r len start h k =

@@ -5,7 +5,7 @@ use Rattle.reg_entry.specs.Holders.{HaveDistinctHandles}
 use Rattle.holder_book.specs.Index.{IsHolderIndex}
 
 -- the capacities are those of the two lists
-pub record IsKept (hs : List (Holder × ℕ)) (es : List (List ℕ × ℕ)) (room hs_room es_room : ℕ) : Type 0 where
+pub record IsHolderBook (hs : List (Holder × ℕ)) (es : List (List ℕ × ℕ)) (room hs_room es_room : ℕ) : Type 0 where
   pub distinct : HaveDistinctHandles hs
   pub index : IsHolderIndex hs es
   pub within : length hs ≤ room

@@ -19,13 +19,13 @@ pub struct HolderBook {
 impl Model for HolderBook {
     ghost use Rattle.std.specs.Prelude.{vec_capacity};
     ghost use Rattle.holder_book.specs.Book.{PlainHolderBook};
-    ghost use Rattle.holder_book.specs.Kept.{IsKept};
+    ghost use Rattle.holder_book.specs.Kept.{IsHolderBook};
 
     ghost Value = { PlainHolderBook };
 
     ghost view = { λ b. record { holders = b.holders.items; room = b.room } };
 
-    ghost invariant = { λ b. IsKept b.holders.items b.index.items b.room (vec_capacity b.holders) (vec_capacity b.index) };
+    ghost invariant = { λ b. IsHolderBook b.holders.items b.index.items b.room (vec_capacity b.holders) (vec_capacity b.index) };
 }
 
 impl HolderBook {

@@ -10,7 +10,7 @@ use Rattle.num_range.specs.Space.{same_space}
 use Rattle.num_range.specs.Range.{PlainRange, size_of}
 use Rattle.reg_entry.specs.declared.card.Card.{Card}
 use Rattle.reg_entry.specs.Card.{is_delegated}
-use Rattle.reg_laws.specs.Holdings.{held_by_card}
+use Rattle.reg_entry.specs.Holdings.{held_by_card}
 use Rattle.holding_book.specs.declared.book.Held.{Held}
 use Rattle.holding_book.specs.declared.book.Holding.{Holding}
 use Rattle.holding_book.specs.Book.{PlainHoldingBook, of_space, with_space, held_in, holder_of}

@@ -36,7 +36,7 @@ abbrev pub holder_of : Card → Option ℕ
 holder_of c = if is_delegated c.status then c.holder else None
 
 -- the capacity is the list's
-pub record IsKept (holdings : List Holding) (room capacity : ℕ) : Type 0 where
+pub record IsHoldingBook (holdings : List Holding) (room capacity : ℕ) : Type 0 where
   pub within : length holdings ≤ room
   pub at_most : room ≤ 2 ^ 30
   pub reserved : room ≤ capacity

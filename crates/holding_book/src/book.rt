@@ -3,7 +3,7 @@ ghost use Rattle.num_range.specs.declared.space.Space.{Space as TheSpace};
 ghost use Rattle.num_range.specs.Space.{same_space};
 ghost use Rattle.reg_entry.specs.declared.card.Status.TheVariants.{Allocated};
 ghost use Rattle.reg_entry.specs.Card.{same_status};
-ghost use Rattle.reg_laws.specs.Holdings.{gives_held, held_by_card, allocated_by_card};
+ghost use Rattle.reg_entry.specs.Holdings.{gives_held, held_by_card, allocated_by_card};
 ghost use Rattle.holding_book.specs.Book.{of_space, with_space, held_in, allocated_in, holder_of};
 
 use num_range::{Range, Space};
@@ -83,13 +83,13 @@ pub struct HoldingBook {
 
 impl Model for HoldingBook {
     ghost use Rattle.std.specs.Prelude.{vec_capacity};
-    ghost use Rattle.holding_book.specs.Book.{PlainHoldingBook, IsKept};
+    ghost use Rattle.holding_book.specs.Book.{PlainHoldingBook, IsHoldingBook};
 
     ghost Value = { PlainHoldingBook };
 
     ghost view = { λ b. record { holdings = b.holdings.items; room = b.room } };
 
-    ghost invariant = { λ b. IsKept b.holdings.items b.room (vec_capacity b.holdings) };
+    ghost invariant = { λ b. IsHoldingBook b.holdings.items b.room (vec_capacity b.holdings) };
 }
 
 impl HoldingBook {

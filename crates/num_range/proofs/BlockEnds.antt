@@ -1,6 +1,6 @@
 -- A block starts at a multiple of its size and never ends past its space.
-use Rattle.std.proofs.Common.{◌≡◌, ℕ, ◌+◌, ◌-◌, ◌*◌, ◌/◌, ◌%◌, ◌^◌, ◌<◌, ◌≤◌, refl, sym, ◌∙◌, ap, subst, arith}
-use Rattle.std.proofs.Math.Nat.{div-lt_iff_lt-mul, mul_comm, mul-mod_left}
+use Rattle.std.proofs.Common.{◌≡◌, ℕ, ◌+◌, ◌-◌, ◌*◌, ◌/◌, ◌%◌, ◌^◌, ◌<◌, ◌≤◌, refl, sym, ◌∙◌, ap, subst, arith, lit≤}
+use Rattle.std.proofs.Math.Nat.{div-lt_iff_lt-mul, mul_comm, mul-mod_left, pow-le-pow_right}
 use Rattle.std.proofs.lemmas.Nat.{mul-add-lt, pow-add, div-add-mod', pow_pos}
 use Rattle.num_range.specs.declared.space.Space.{Space}
 use Rattle.num_range.specs.declared.space.Space.TheVariants.{Asn, Ipv4, Ipv6}
@@ -49,3 +49,9 @@ pub start_is_multiple : (v size : ℕ) → (v - v % size) % size ≡ 0
 start_is_multiple v size =
     let e : v - v % size ≡ v / size * size = let parts = div-add-mod' v size in omega arith in
     ap (λ n. n % size) e ∙ mul-mod_left (v / size) size
+
+-- a block of IPv6 addresses of length 3 or more has some numbers, and no more than 2000::/3
+pub unicast_block_size : (len : ℕ) → 3 ≤ len → (1 ≤ 2 ^ (128 - len)) × (2 ^ (128 - len) ≤ 2 ^ 125)
+unicast_block_size len h =
+    let below : 128 - len ≤ 125 = omega arith in
+    (pow_pos (128 - len), pow-le-pow_right (lit≤ tt) below)

@@ -8,8 +8,8 @@ use Rattle.num_range.specs.Range.{PlainRange}
 use Rattle.num_range.specs.Block.{block_size, block_of}
 
 -- each number of the block is one of the range's
-abbrev pub lies_inside : PlainRange → PlainRange → Bool
-lies_inside block r = nat_le r.first block.first && nat_le block.last r.last
+abbrev pub is_part_of : PlainRange → PlainRange → Bool
+is_part_of block r = nat_le r.first block.first && nat_le block.last r.last
 
 -- the block has a number of the range
 abbrev pub has_some_of : PlainRange → PlainRange → Bool
@@ -20,10 +20,10 @@ has_some_of block r = nat_le r.first block.last && nat_le block.first r.last
 unfoldable pub blocks_inside : (ℕ → Bool) → PlainRange → ℕ → ℕ → ℕ → List PlainRange
 blocks_inside is_asked r zero len start =
     let block = block_of r.space start len in
-    if is_asked len && lies_inside block r then block ∷ [] else []
+    if is_asked len && is_part_of block r then block ∷ [] else []
 blocks_inside is_asked r (suc lengths_left) len start =
     let block = block_of r.space start len in
-    elim (is_asked len && lies_inside block r) [
+    elim (is_asked len && is_part_of block r) [
       | true ↦ block ∷ []
       | false ↦ elim (has_some_of block r) [
         | false ↦ []

@@ -1,5 +1,6 @@
 ghost use Rattle.std.specs.Prelude.{◌≡◌, ◌≤◌, ◌↔◌, IsSome, IfSome};
 ghost use Rattle.num_range.specs.Space.{top_of};
+ghost use Rattle.num_range.specs.Number.{number_before};
 
 use crate::Space;
 use std::marker::Model;
@@ -55,5 +56,15 @@ impl Number {
         ensures within { result ≤ top_of self.now.space }
     {
         self.value
+    }
+
+    /// The number before this one, or 0, which has none before it.
+    pub fn before(self) -> Number
+        ensures { result ≡ number_before self }
+    {
+        Number {
+            space: self.space,
+            value: self.value.saturating_sub(1),
+        }
     }
 }

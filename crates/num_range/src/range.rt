@@ -1,6 +1,6 @@
-ghost use Rattle.std.specs.Prelude.{◌≡◌, ◌≤◌, ◌<◌, ◌↔◌, ◌^◌, IsTrue, IsSome, IfSome};
+ghost use Rattle.std.specs.Prelude.{◌≡◌, ◌≤◌, ◌<◌, ◌↔◌, ◌^◌, IsSome, IfSome};
 ghost use Rattle.num_range.specs.Space.{top_of};
-ghost use Rattle.num_range.specs.Range.{IsRange, Holds, IsInside, Meets, size_of};
+ghost use Rattle.num_range.specs.Range.{IsRange, size_of, first_number, range_holds, lies_inside, ranges_meet};
 
 use crate::{Number, Space};
 use std::marker::Model;
@@ -69,23 +69,30 @@ impl Range {
         self.last
     }
 
+    /// The first number of the range.
+    pub fn first_number(&self) -> Number
+        ensures { result ≡ first_number self.now }
+    {
+        Number::of(self.space, self.first)
+    }
+
     /// Whether the number is one of the range's.
     pub fn holds(&self, n: Number) -> bool
-        ensures { IsTrue result ↔ Holds self.now n }
+        ensures { result ≡ range_holds self.now n }
     {
         self.space == n.space() && self.first <= n.value() && n.value() <= self.last
     }
 
     /// Whether each number of this range is one of the outer range's.
     pub fn inside(&self, outer: &Range) -> bool
-        ensures { IsTrue result ↔ IsInside self.now outer.now }
+        ensures { result ≡ lies_inside self.now outer.now }
     {
         self.space == outer.space && outer.first <= self.first && self.last <= outer.last
     }
 
     /// Whether the two ranges have a number in common.
     pub fn meets(&self, other: &Range) -> bool
-        ensures { IsTrue result ↔ Meets self.now other.now }
+        ensures { result ≡ ranges_meet self.now other.now }
     {
         self.space == other.space && self.first <= other.last && other.first <= self.last
     }

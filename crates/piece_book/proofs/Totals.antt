@@ -6,7 +6,7 @@ use Rattle.num_range.specs.declared.space.Space.TheVariants.{Asn, Ipv4, Ipv6}
 use Rattle.reg_entry.specs.declared.card.Status.{Status}
 use Rattle.reg_entry.specs.declared.piece.Piece.{Piece}
 use Rattle.reg_entry.specs.Pieces.{RisesFrom, AllPiecesOf, IsPieceOf, ArePieces}
-use Rattle.piece_book.specs.Sums.{has_status, status_sum}
+use Rattle.reg_entry.specs.Sums.{has_status, status_sum}
 
 ends_low : (space : Space) (p : Piece) → IsPieceOf space p → p.range.last < 2 ^ 126
 ends_low Asn p h = omega (arith, h.within)

@@ -4,4 +4,3 @@ pub mod Seams
 pub mod Touched
 pub mod Cutting
 pub mod Places
-pub mod Sums

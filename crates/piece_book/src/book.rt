@@ -5,7 +5,7 @@ ghost use Rattle.reg_entry.specs.declared.piece.Piece.{Piece};
 ghost use Rattle.reg_entry.specs.Pieces.{ArePieces, IsCard, IsInOnePieceOrNone, IsPoolRange, piece_at, first_met, overlap, laid};
 ghost use Rattle.piece_book.specs.Cutting.{IsJoinPlace, IsSplitPlace};
 ghost use Rattle.reg_entry.specs.Reshaping.{joined_at, split_at_number};
-ghost use Rattle.piece_book.specs.Sums.{status_sum};
+ghost use Rattle.reg_entry.specs.Sums.{status_sum};
 ghost use Rattle.piece_book.specs.Touched.{IsTouched};
 ghost use Rattle.reg_entry.specs.Partition.{empty_partition, pieces_in, with_pieces, piece_count, IsPartition};
 
@@ -76,6 +76,15 @@ impl PieceBook {
             Space::Ipv4 => self.asn.len() + self.ipv6.len(),
             Space::Ipv6 => self.asn.len() + self.ipv4.len(),
         }
+    }
+
+    /// Tells callers what every book keeps: the pieces of each space are pieces of it, and no more than there is room for.
+    pub fn are_pieces(&self)
+        ensures pieces { IsPartition self.now.partition }
+        ensures within { piece_count self.now.partition ≤ self.now.room }
+        ensures bound { self.now.room ≤ 2 ^ 30 }
+    {
+        let _ = &self.room;
     }
 
     /// How many pieces there are in all.

@@ -1,5 +1,5 @@
 ghost use Rattle.std.specs.Prelude.{◌≡◌, ◌<◌, ◌^◌};
-ghost use Rattle.piece_book.specs.Sums.{has_status, status_sum};
+ghost use Rattle.reg_entry.specs.Sums.{has_status, status_sum};
 
 use reg_entry::{Piece, Status};
 

@@ -7,17 +7,17 @@ use Rattle.std.proofs.lemmas.List.Folds.{list_all_more, list_all_at}
 use Rattle.reg_entry.specs.Host.{is_host}
 use Rattle.toml.specs.View.{view}
 use Rattle.toml.specs.declared.value.Value.{Value}
-use Rattle.policy_table.specs.Section.{text_of}
+use Rattle.policy_table.specs.Section.{string_of}
 use Rattle.policy_table.specs.Zone.{are_servers}
 
 abbrev pub texts : List Value → List (List ℕ)
-texts vs = map (λ v. text_of (view v)) vs
+texts vs = map (λ v. string_of (view v)) vs
 
-pub text_in : (vs : List Value) (i : ℕ) (v : Value) → i < length vs → v ≡ get_or vs i v → get_or (texts vs) i (text_of (view v)) ≡ text_of (view v)
-text_in vs i v within is = get_or-map (λ x. text_of (view x)) vs i v (text_of (view v)) within ∙ ap (λ x. text_of (view x)) (sym is)
+pub text_in : (vs : List Value) (i : ℕ) (v : Value) → i < length vs → v ≡ get_or vs i v → get_or (texts vs) i (string_of (view v)) ≡ string_of (view v)
+text_in vs i v within is = get_or-map (λ x. string_of (view x)) vs i v (string_of (view v)) within ∙ ap (λ x. string_of (view x)) (sym is)
 
 pub count_of : (vs : List Value) → length (texts vs) ≡ length vs
-count_of vs = length-map vs (λ v. text_of (view v))
+count_of vs = length-map vs (λ v. string_of (view v))
 
 -- what a test that chose a value says
 pub chosen : (test : Bool) (x y : List ℕ) → (if test then Some x else None) ≡ Some y → (test ≡ true) × (x ≡ y)

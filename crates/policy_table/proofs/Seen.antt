@@ -10,16 +10,16 @@ use Rattle.toml.specs.View.{view, items_view, members_view}
 use Rattle.toml.specs.declared.value.Value.{Value}
 use Rattle.policy_table.specs.declared.fault.PolicyFault.{PolicyFault}
 use Rattle.policy_table.specs.declared.fault.PolicyFault.TheVariants.{NoMemory}
-use Rattle.policy_table.specs.Section.{values_in, is_string, text_of, Gives}
-use Rattle.policy_table.specs.Hostmasters.{members_in, texts_in, is_hostmaster, tokens_differ, is_count, are_hostmasters, AreRising}
+use Rattle.policy_table.specs.Section.{values_in, is_string, string_of, Gives}
+use Rattle.policy_table.specs.Hostmasters.{members_in, texts_in, is_name_and_key, tokens_differ, is_count, are_hostmasters, AreRising}
 
 pub strings_of_items : (vs : List Value) → list_all is_string (values_in (items_view vs)) ≡ list_all (λ v. is_string (view v)) vs
 strings_of_items [] = refl
 strings_of_items (v ∷ vs) = ap (λ b. is_string (view v) && b) (strings_of_items vs)
 
-pub texts_of_items : (vs : List Value) → map text_of (values_in (items_view vs)) ≡ map (λ v. text_of (view v)) vs
+pub texts_of_items : (vs : List Value) → map string_of (values_in (items_view vs)) ≡ map (λ v. string_of (view v)) vs
 texts_of_items [] = refl
-texts_of_items (v ∷ vs) = ap (λ ts. text_of (view v) ∷ ts) (texts_of_items vs)
+texts_of_items (v ∷ vs) = ap (λ ts. string_of (view v) ∷ ts) (texts_of_items vs)
 
 pub strings_of_members : (es : List (String Global × Value)) → list_all (λ m. is_string m.1) (members_in (members_view es)) ≡ list_all (λ v. is_string (view v)) (values_of es)
 strings_of_members [] = refl
@@ -40,14 +40,14 @@ unfolding IsStrictlySortedBy
 rising_texts [] h = tt
 rising_texts (e ∷ es) h = (names_above (string_bytes e.0) es h.0, rising_texts es h.1)
 
-pub all_of_texts : (p : List ℕ → Bool) (vs : List Value) → list_all p (map (λ v. text_of (view v)) vs) ≡ list_all (λ v. p (text_of (view v))) vs
-all_of_texts p vs = list_all-map p (λ v. text_of (view v)) vs
+pub all_of_texts : (p : List ℕ → Bool) (vs : List Value) → list_all p (map (λ v. string_of (view v)) vs) ≡ list_all (λ v. p (string_of (view v))) vs
+all_of_texts p vs = list_all-map p (λ v. string_of (view v)) vs
 
-pub any_of_texts : (p : List ℕ → Bool) (vs : List Value) → list_any p (map (λ v. text_of (view v)) vs) ≡ list_any (λ v. p (text_of (view v))) vs
+pub any_of_texts : (p : List ℕ → Bool) (vs : List Value) → list_any p (map (λ v. string_of (view v)) vs) ≡ list_any (λ v. p (string_of (view v))) vs
 any_of_texts p [] = refl
-any_of_texts p (v ∷ vs) = ap (λ b. p (text_of (view v)) || b) (any_of_texts p vs)
+any_of_texts p (v ∷ vs) = ap (λ b. p (string_of (view v)) || b) (any_of_texts p vs)
 
-pub all_three : (hs ts : List (List ℕ × List ℕ)) → hs ≡ ts → is_count (length ts) ≡ true → list_all is_hostmaster hs ≡ true → tokens_differ hs ≡ true → are_hostmasters hs ≡ true
+pub all_three : (hs ts : List (List ℕ × List ℕ)) → hs ≡ ts → is_count (length ts) ≡ true → list_all is_name_and_key hs ≡ true → tokens_differ hs ≡ true → are_hostmasters hs ≡ true
 all_three hs ts same count forms differ = rw (ap (λ l. is_count (length l)) same ∙ count, forms, differ) refl
 
 -- a list with one element that fails

@@ -64,12 +64,12 @@ abbrev pub is_string : Data → Bool
 is_string value = is_some (as_str value)
 
 -- the bytes of a string, and none of another value
-abbrev pub text_of : Data → List ℕ
-text_of (string text) = text
-text_of _ = []
+abbrev pub string_of : Data → List ℕ
+string_of (string text) = text
+string_of _ = []
 
 -- an array of strings
 unfoldable pub texts_at : ℕ → List ℕ → Members → Result (List (List ℕ)) PolicyFault
 texts_at key name table = do
   items ← array_at key name table
-  if list_all is_string (values_in items) then Ok (map text_of (values_in items)) else Err (Wrong key)
+  if list_all is_string (values_in items) then Ok (map string_of (values_in items)) else Err (Wrong key)

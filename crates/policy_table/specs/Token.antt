@@ -1,10 +1,8 @@
 -- The tokens by which hostmasters are known: b64token (RFC 6750 2.1), of 8 to 64 bytes.
 use Rattle.std.specs.Prelude.{ℕ, Bool, ◌&&◌, ◌||◌, ◌==◌, nat_le, List, length, take_while, drop}
 use Rattle.std.specs.List.{list_all}
+use Rattle.reg_entry.specs.Handle.{is_capital}
 use Rattle.reg_entry.specs.Name.{is_name_byte}
-
-abbrev pub is_capital : ℕ → Bool
-is_capital b = nat_le 65 b && nat_le b 90
 
 -- `-`, `.`, `_`, `~`, `+` and `/`
 abbrev pub is_token_mark : ℕ → Bool

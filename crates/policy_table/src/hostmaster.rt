@@ -1,5 +1,5 @@
 ghost use Rattle.std.specs.Prelude.{◌≡◌, Some, None, if◌then◌else◌};
-ghost use Rattle.policy_table.specs.Hostmasters.{is_hostmaster};
+ghost use Rattle.policy_table.specs.Hostmasters.{is_name_and_key};
 
 use crate::token::Token;
 use reg_entry::Name;
@@ -25,7 +25,7 @@ impl Model for Hostmaster {
 impl Hostmaster {
     /// The hostmaster of this name and this token, or nothing where one of them isn't of its form.
     pub(crate) fn read(name: &[u8], token: &[u8]) -> Option<Hostmaster>
-        ensures { result ≡ (if is_hostmaster (name.now, token.now) then Some (name.now, token.now) else None) }
+        ensures { result ≡ (if is_name_and_key (name.now, token.now) then Some (name.now, token.now) else None) }
     {
         let name = Name::read(name)?;
         let token = Token::read(token)?;

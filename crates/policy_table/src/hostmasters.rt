@@ -5,11 +5,11 @@ ghost use Rattle.std.specs.Result.{result_map_both};
 ghost use Rattle.std.specs.BTreeMap.{values};
 ghost use Rattle.toml.specs.View.{view, table_view};
 ghost use Rattle.policy_table.specs.Section.{is_string, Gives};
-ghost use Rattle.policy_table.specs.Hostmasters.{texts_in, named_texts_at, is_hostmaster, tokens_differ, is_count, are_hostmasters, AreRising, hostmasters_at};
+ghost use Rattle.policy_table.specs.Hostmasters.{texts_in, named_texts_at, is_name_and_key, tokens_differ, is_count, are_hostmasters, AreRising, hostmasters_at};
 
 use crate::PolicyFault;
 use crate::hostmaster::Hostmaster;
-use crate::section::{table_at, text_of};
+use crate::section::{string_of, table_at};
 use reg_entry::Name;
 use std::alloc::{AllocError, Global};
 use toml::Table;
@@ -37,12 +37,12 @@ fn named_texts_at<'a>(top: &'a Table, key: u8, name: &str) -> Result<&'a Table, 
 
 /// The hostmasters of the table in the order of their names, or nothing where a name or a token isn't of its form.
 fn listed(alloc: Global, table: &Table) -> Result<Option<Vec<Hostmaster>>, AllocError>
-    ensures some { IfOk result (λ found. IfSome found (λ hs. (hs.items ≡ texts_in (table_view table.now)) × (list_all is_hostmaster hs.items ≡ true))) }
-    ensures none { IfOk result (λ found. IsNone found → list_all is_hostmaster (texts_in (table_view table.now)) ≡ false) }
+    ensures some { IfOk result (λ found. IfSome found (λ hs. (hs.items ≡ texts_in (table_view table.now)) × (list_all is_name_and_key hs.items ≡ true))) }
+    ensures none { IfOk result (λ found. IsNone found → list_all is_name_and_key (texts_in (table_view table.now)) ≡ false) }
 {
     let mut hostmasters = Vec::new(alloc);
     for (name, value) in table {
-        let Some(hostmaster) = Hostmaster::read(name.as_bytes(), text_of(value).as_bytes()) else {
+        let Some(hostmaster) = Hostmaster::read(name.as_bytes(), string_of(value).as_bytes()) else {
             return Ok(None);
         };
         hostmasters.push(hostmaster)?;

@@ -14,3 +14,4 @@ mod zone;
 
 pub use fault::PolicyFault;
 pub use policy::Policy;
+pub use reg_entry::{Row, ZoneTerms};

@@ -3,11 +3,11 @@ ghost use Rattle.std.specs.Prelude.{◌≡◌, ◌≤◌, IfOk, bytes_eq};
 ghost use Rattle.std.specs.List.{list_all, list_any};
 ghost use Rattle.reg_entry.specs.Policy.{IsRowOf};
 ghost use Rattle.toml.specs.View.{view, table_view};
-ghost use Rattle.policy_table.specs.Section.{text_of};
+ghost use Rattle.policy_table.specs.Section.{string_of};
 ghost use Rattle.policy_table.specs.Rows.{limits_of, cap_size, row_name, percent_at, kinds_key, is_kind, kinds_at, row_at, section_name, rows_at};
 
 use crate::PolicyFault;
-use crate::section::{integer_at, number_up_to, strings_at, table_at, text_of};
+use crate::section::{integer_at, number_up_to, string_of, strings_at, table_at};
 use num_range::Space;
 use reg_entry::{Delegation, Row};
 use std::marker::Model;
@@ -79,13 +79,13 @@ fn cap_size(space: Space, cap: u64) -> u128
 }
 
 fn is_word(value: &Value, word: &str) -> bool
-    ensures { result ≡ bytes_eq (text_of (view value.now)) word.now }
+    ensures { result ≡ bytes_eq (string_of (view value.now)) word.now }
 {
-    text_of(value) == word
+    string_of(value) == word
 }
 
 fn all_kinds(values: &[Value]) -> bool
-    ensures { result ≡ list_all (λ v. is_kind (text_of (view v))) values.now }
+    ensures { result ≡ list_all (λ v. is_kind (string_of (view v))) values.now }
 {
     values
         .iter()
@@ -93,7 +93,7 @@ fn all_kinds(values: &[Value]) -> bool
 }
 
 fn names_kind(values: &[Value], kind: &str) -> bool
-    ensures { result ≡ list_any (λ v. bytes_eq (text_of (view v)) kind.now) values.now }
+    ensures { result ≡ list_any (λ v. bytes_eq (string_of (view v)) kind.now) values.now }
 {
     values.iter().any(|value| is_word(value, kind))
 }

@@ -3,7 +3,7 @@ ghost use Rattle.std.specs.Prelude.{◌≡◌, ◌≤◌, IfOk, map};
 ghost use Rattle.std.specs.List.{list_all};
 ghost use Rattle.std.specs.Result.{result_map_both};
 ghost use Rattle.toml.specs.View.{view, items_view, table_view};
-ghost use Rattle.policy_table.specs.Section.{value_at, table_at, array_at, text_at, integer_at, host_at, number_between, is_string, text_of, texts_at};
+ghost use Rattle.policy_table.specs.Section.{value_at, table_at, array_at, text_at, integer_at, host_at, number_between, is_string, string_of, texts_at};
 
 use crate::PolicyFault;
 use reg_entry::Host;
@@ -90,8 +90,8 @@ pub(crate) fn host_at(table: &Table, key: u8, name: &str) -> Result<Host, Policy
 }
 
 /// The bytes of a string, and none of another value.
-pub(crate) fn text_of(value: &Value) -> &str
-    ensures { result.now ≡ text_of (view value.now) }
+pub(crate) fn string_of(value: &Value) -> &str
+    ensures { result.now ≡ string_of (view value.now) }
 {
     match value.as_str() {
         Some(text) => text,
@@ -123,7 +123,7 @@ pub(crate) fn strings_at<'a>(
     key: u8,
     name: &str,
 ) -> Result<&'a [Value], PolicyFault>
-    ensures { result_map_both (λ vs. map (λ v. text_of (view v)) vs.now) (λ e. e) result ≡ texts_at key name.now (table_view table.now) }
+    ensures { result_map_both (λ vs. map (λ v. string_of (view v)) vs.now) (λ e. e) result ≡ texts_at key name.now (table_view table.now) }
 {
     let values = array_at(table, key, name)?;
     if !all_strings(values) {

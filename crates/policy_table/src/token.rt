@@ -1,6 +1,7 @@
 ghost use Rattle.std.specs.Prelude.{◌≡◌, ◌==◌, ◌↔◌, drop, IsTrue, IsSome, IfSome};
 ghost use Rattle.std.specs.List.{list_all};
-ghost use Rattle.policy_table.specs.Token.{is_capital, is_token_mark, is_token_byte, token_front, has_token_form, is_token};
+ghost use Rattle.reg_entry.specs.Handle.{is_capital};
+ghost use Rattle.policy_table.specs.Token.{is_token_mark, is_token_byte, token_front, has_token_form, is_token};
 
 use reg_entry::Label;
 use std::marker::Model;

@@ -2,11 +2,11 @@
 ghost use Rattle.std.specs.Prelude.{◌≡◌, Some, None, map, if◌then◌else◌};
 ghost use Rattle.reg_entry.specs.Host.{is_host};
 ghost use Rattle.toml.specs.View.{view, table_view};
-ghost use Rattle.policy_table.specs.Section.{text_of};
+ghost use Rattle.policy_table.specs.Section.{string_of};
 ghost use Rattle.policy_table.specs.Zone.{are_servers, servers_at, zone_at};
 
 use crate::PolicyFault;
-use crate::section::{host_at, number_up_to, strings_at, table_at, text_of};
+use crate::section::{host_at, number_up_to, string_of, strings_at, table_at};
 use reg_entry::{Host, SERVER_ROOM, Servers, ZoneTerms};
 use toml::{Table, Value};
 
@@ -14,14 +14,14 @@ use toml::{Table, Value};
 const LONGEST: u32 = 0x7fff_ffff;
 
 fn host_of(value: &Value) -> Option<Host>
-    ensures { result ≡ (if is_host (text_of (view value.now)) then Some (text_of (view value.now)) else None) }
+    ensures { result ≡ (if is_host (string_of (view value.now)) then Some (string_of (view value.now)) else None) }
 {
-    Host::read(text_of(value).as_bytes())
+    Host::read(string_of(value).as_bytes())
 }
 
 /// The servers that the strings name, or nothing where there is none, there are more than four, or one names no host.
 fn servers_of(values: &[Value]) -> Option<Servers>
-    ensures { result ≡ (if are_servers (map (λ v. text_of (view v)) values.now) then Some (map (λ v. text_of (view v)) values.now) else None) }
+    ensures { result ≡ (if are_servers (map (λ v. string_of (view v)) values.now) then Some (map (λ v. string_of (view v)) values.now) else None) }
 {
     if values.is_empty() || values.len() > SERVER_ROOM {
         return None;

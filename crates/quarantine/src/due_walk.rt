@@ -48,7 +48,7 @@ pub fn due_count(pieces: &PieceBook, day: u32) -> u32
     ensures { result ≡ length (due_pieces pieces.now.partition day) }
 {
     // The count of all pieces bounds that of those that are due.
-    let _all = pieces.pieces();
+    pieces.are_pieces();
     due(pieces, day).count() as u32
 }
 

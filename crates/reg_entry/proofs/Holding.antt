@@ -2,7 +2,7 @@
 use Rattle.std.proofs.Common.{◌≡◌, ℕ, ◌+◌, ◌<◌, ◌≤◌, true, false, ◌&&◌, nat_le, List, [], ◌∷◌, None, Some, refl, ◌∙◌, arith}
 use Rattle.std.proofs.lemmas.Bool.{and_parts, and_from, and_left, and_right, leb-true, le-leb, lt-leb, cond-true, cond-false}
 use Rattle.reg_entry.specs.declared.piece.Piece.{Piece}
-use Rattle.reg_entry.specs.Pieces.{holds, piece_at, RisesFrom}
+use Rattle.reg_entry.specs.Pieces.{piece_holds, piece_at, RisesFrom}
 
 pub within_true : (first n last : ℕ) → (nat_le first n && nat_le n last) ≡ true → (first ≤ n) × (n ≤ last)
 within_true first n last e =
@@ -18,23 +18,23 @@ below_false first n last h = and_left (nat_le first n) (nat_le n last) (lt-leb f
 pub above_false : (first n last : ℕ) → last < n → (nat_le first n && nat_le n last) ≡ false
 above_false first n last h = and_right (nat_le first n) (nat_le n last) (lt-leb n last h)
 
-pub holds_true : (p : Piece) (n : ℕ) → holds p n ≡ true → (p.range.first ≤ n) × (n ≤ p.range.last)
+pub holds_true : (p : Piece) (n : ℕ) → piece_holds p n ≡ true → (p.range.first ≤ n) × (n ≤ p.range.last)
 holds_true p n e = within_true p.range.first n p.range.last e
 
-pub holds_from : (p : Piece) (n : ℕ) → p.range.first ≤ n → n ≤ p.range.last → holds p n ≡ true
+pub holds_from : (p : Piece) (n : ℕ) → p.range.first ≤ n → n ≤ p.range.last → piece_holds p n ≡ true
 holds_from p n h k = within_from p.range.first n p.range.last h k
 
-pub not_held_below : (p : Piece) (n : ℕ) → n < p.range.first → holds p n ≡ false
+pub not_held_below : (p : Piece) (n : ℕ) → n < p.range.first → piece_holds p n ≡ false
 not_held_below p n h = below_false p.range.first n p.range.last h
 
-pub not_held_above : (p : Piece) (n : ℕ) → p.range.last < n → holds p n ≡ false
+pub not_held_above : (p : Piece) (n : ℕ) → p.range.last < n → piece_holds p n ≡ false
 not_held_above p n h = above_false p.range.first n p.range.last h
 
-pub piece_at-first : (p : Piece) (ps : List Piece) (n : ℕ) → holds p n ≡ true → piece_at (p ∷ ps) n ≡ Some p
-piece_at-first p ps n e = cond-true (holds p n) (Some p) (piece_at ps n) e
+pub piece_at-first : (p : Piece) (ps : List Piece) (n : ℕ) → piece_holds p n ≡ true → piece_at (p ∷ ps) n ≡ Some p
+piece_at-first p ps n e = cond-true (piece_holds p n) (Some p) (piece_at ps n) e
 
-pub piece_at-rest : (p : Piece) (ps : List Piece) (n : ℕ) → holds p n ≡ false → piece_at (p ∷ ps) n ≡ piece_at ps n
-piece_at-rest p ps n e = cond-false (holds p n) (Some p) (piece_at ps n) e
+pub piece_at-rest : (p : Piece) (ps : List Piece) (n : ℕ) → piece_holds p n ≡ false → piece_at (p ∷ ps) n ≡ piece_at ps n
+piece_at-rest p ps n e = cond-false (piece_holds p n) (Some p) (piece_at ps n) e
 
 -- no piece holds a number below all pieces
 pub piece_at-below : (low : ℕ) (ps : List Piece) (n : ℕ) → RisesFrom low ps → n < low → piece_at ps n ≡ None

@@ -8,7 +8,7 @@ use Rattle.num_range.specs.declared.space.Space.TheVariants.{Asn, Ipv4, Ipv6}
 use Rattle.num_range.specs.Space.{top_of}
 use Rattle.reg_entry.specs.declared.piece.Piece.{Piece}
 use Rattle.reg_entry.specs.Card.{is_available}
-use Rattle.reg_entry.specs.Pieces.{holds, can_join, RisesFrom, IsSettledAfter, IsSettled, AllPiecesOf, ArePieces}
+use Rattle.reg_entry.specs.Pieces.{piece_holds, can_join, RisesFrom, IsSettledAfter, IsSettled, AllPiecesOf, ArePieces}
 use Rattle.reg_entry.specs.Blocks.{is_free, alignment, IsFreeBlock, IsLeastBlock, rounded_up, least_block}
 use Rattle.reg_entry.proofs.Holding.{holds_true, holds_from}
 
@@ -44,9 +44,9 @@ alignment_pos Ipv6 size h = h
 pub free_cases : (p : Piece) (ps : List Piece) (n : ℕ) → is_free (p ∷ ps) n ≡ true
     → ((is_available p.card.status ≡ true) × (p.range.first ≤ n) × (n ≤ p.range.last)) ⊎ (is_free ps n ≡ true)
 free_cases p ps n h =
-    elim (or_cases (is_available p.card.status && holds p n) (is_free ps n) h) [
+    elim (or_cases (is_available p.card.status && piece_holds p n) (is_free ps n) h) [
       | inl e ↦
-          let both = and_parts (is_available p.card.status) (holds p n) e in
+          let both = and_parts (is_available p.card.status) (piece_holds p n) e in
           let inside = holds_true p n both.1 in
           inl (both.0, inside.0, inside.1)
       | inr e ↦ inr e
@@ -55,10 +55,10 @@ free_cases p ps n h =
 pub free_in_first : (p : Piece) (ps : List Piece) (n : ℕ) → is_available p.card.status ≡ true → p.range.first ≤ n → n ≤ p.range.last
     → is_free (p ∷ ps) n ≡ true
 free_in_first p ps n e h k =
-    or_left (is_available p.card.status && holds p n) (is_free ps n) (and_from (is_available p.card.status) (holds p n) e (holds_from p n h k))
+    or_left (is_available p.card.status && piece_holds p n) (is_free ps n) (and_from (is_available p.card.status) (piece_holds p n) e (holds_from p n h k))
 
 pub free_in_rest : (p : Piece) (ps : List Piece) (n : ℕ) → is_free ps n ≡ true → is_free (p ∷ ps) n ≡ true
-free_in_rest p ps n e = or_right (is_available p.card.status && holds p n) (is_free ps n) e
+free_in_rest p ps n e = or_right (is_available p.card.status && piece_holds p n) (is_free ps n) e
 
 -- no number below all pieces is free
 pub free_from : (low : ℕ) (ps : List Piece) (n : ℕ) → RisesFrom low ps → is_free ps n ≡ true → low ≤ n

@@ -10,3 +10,7 @@ pub mod LeastBlock
 pub mod Overlaps
 pub mod Lookups
 pub mod Sizes
+pub mod OnePiece
+pub mod Statuses
+pub mod Orders
+pub mod Reshaped

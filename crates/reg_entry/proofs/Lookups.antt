@@ -7,7 +7,7 @@ use Rattle.num_range.specs.declared.space.Space.{Space}
 use Rattle.num_range.specs.Range.{PlainRange, IsRange}
 use Rattle.reg_entry.specs.declared.card.Card.{Card}
 use Rattle.reg_entry.specs.declared.piece.Piece.{Piece}
-use Rattle.reg_entry.specs.Pieces.{holds, card_at, part_below, part_above, can_join, joined_pair, joined_after, joined, laid, RisesFrom, IsCard, AllPiecesOf, ArePieces}
+use Rattle.reg_entry.specs.Pieces.{piece_holds, card_at, part_below, part_above, can_join, joined_pair, joined_after, joined, laid, RisesFrom, IsCard, AllPiecesOf, ArePieces}
 use Rattle.reg_entry.proofs.Holding.{within_from, below_false, above_false, not_held_below, not_held_above}
 use Rattle.reg_entry.proofs.Joining.{can_join_true}
 use Rattle.reg_entry.proofs.Laying.{kept_below, kept_above, painted_parts, painted_parts_rise}
@@ -17,23 +17,23 @@ card_if b p o =
     elim b as (λ v. option_map (λ q. q.card) (cond v (Some p) o) ≡ cond v (Some p.card) (option_map (λ q. q.card) o)) [ true ↦ refl | false ↦ refl ]
 
 -- the look-up goes down the list
-pub card_at-cons : (p : Piece) (ps : List Piece) (x : ℕ) → card_at (p ∷ ps) x ≡ cond (holds p x) (Some p.card) (card_at ps x)
-card_at-cons p ps x = card_if (holds p x) p (find (λ q. holds q x) ps)
+pub card_at-cons : (p : Piece) (ps : List Piece) (x : ℕ) → card_at (p ∷ ps) x ≡ cond (piece_holds p x) (Some p.card) (card_at ps x)
+card_at-cons p ps x = card_if (piece_holds p x) p (find (λ q. piece_holds q x) ps)
 
-pub card_at-first : (p : Piece) (ps : List Piece) (x : ℕ) → holds p x ≡ true → card_at (p ∷ ps) x ≡ Some p.card
-card_at-first p ps x e = card_at-cons p ps x ∙ cond-true (holds p x) (Some p.card) (card_at ps x) e
+pub card_at-first : (p : Piece) (ps : List Piece) (x : ℕ) → piece_holds p x ≡ true → card_at (p ∷ ps) x ≡ Some p.card
+card_at-first p ps x e = card_at-cons p ps x ∙ cond-true (piece_holds p x) (Some p.card) (card_at ps x) e
 
-pub card_at-rest : (p : Piece) (ps : List Piece) (x : ℕ) → holds p x ≡ false → card_at (p ∷ ps) x ≡ card_at ps x
-card_at-rest p ps x e = card_at-cons p ps x ∙ cond-false (holds p x) (Some p.card) (card_at ps x) e
+pub card_at-rest : (p : Piece) (ps : List Piece) (x : ℕ) → piece_holds p x ≡ false → card_at (p ∷ ps) x ≡ card_at ps x
+card_at-rest p ps x e = card_at-cons p ps x ∙ cond-false (piece_holds p x) (Some p.card) (card_at ps x) e
 
 -- pieces with one card that hold the value alike, before lists in which the look-up is alike
-pub card_at-alike : (p q : Piece) (ps qs : List Piece) (x : ℕ) → p.card ≡ q.card → holds p x ≡ holds q x → card_at ps x ≡ card_at qs x
+pub card_at-alike : (p q : Piece) (ps qs : List Piece) (x : ℕ) → p.card ≡ q.card → piece_holds p x ≡ piece_holds q x → card_at ps x ≡ card_at qs x
     → card_at (p ∷ ps) x ≡ card_at (q ∷ qs) x
 card_at-alike p q ps qs x same held rest =
     card_at-cons p ps x
     ∙ ap (λ b. cond b (Some p.card) (card_at ps x)) held
-    ∙ ap (λ c. cond (holds q x) (Some c) (card_at ps x)) same
-    ∙ ap (λ o. cond (holds q x) (Some q.card) o) rest
+    ∙ ap (λ c. cond (piece_holds q x) (Some c) (card_at ps x)) same
+    ∙ ap (λ o. cond (piece_holds q x) (Some q.card) o) rest
     ∙ sym (card_at-cons q qs x)
 
 -- ---- what is kept of the pieces
@@ -169,8 +169,8 @@ card_at-joined_pair p q qs x e hp hq cp cq =
     let same : p.card ≡ q.card = cp both.1 ∙ sym (cq both.2) in
     card_at-cons (joined_pair p q) qs x
     ∙ within_either p.range.first p.range.last q.range.first q.range.last x (Some p.card) (card_at qs x) hp both.0 hq
-    ∙ ap (λ c. cond (holds p x) (Some p.card) (cond (holds q x) (Some c) (card_at qs x))) same
-    ∙ ap (λ o. cond (holds p x) (Some p.card) o) (sym (card_at-cons q qs x))
+    ∙ ap (λ c. cond (piece_holds p x) (Some p.card) (cond (piece_holds q x) (Some c) (card_at qs x))) same
+    ∙ ap (λ o. cond (piece_holds p x) (Some p.card) o) (sym (card_at-cons q qs x))
     ∙ sym (card_at-cons p (q ∷ qs) x)
 
 pub card_at-joined_after : (low : ℕ) (p : Piece) (qs : List Piece) (x : ℕ) → RisesFrom low (p ∷ qs) → AllCards (p ∷ qs)

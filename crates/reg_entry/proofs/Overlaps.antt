@@ -5,25 +5,25 @@ use Rattle.std.proofs.lemmas.Bool.{cond_both, and_parts, and_from, both_ways, ca
 use Rattle.num_range.specs.declared.space.Space.{Space}
 use Rattle.num_range.specs.Range.{PlainRange, IsRange}
 use Rattle.reg_entry.specs.declared.piece.Piece.{Piece}
-use Rattle.reg_entry.specs.Pieces.{holds, meets, piece_at, first_met, overlap, RisesFrom, ArePieces, IsLeastTaken}
+use Rattle.reg_entry.specs.Pieces.{piece_holds, piece_meets, piece_at, first_met, overlap, RisesFrom, ArePieces, IsLeastTaken}
 use Rattle.reg_entry.proofs.Holding.{holds_true, holds_from, piece_at-first, piece_at-rest, piece_at-below}
 
-pub meets_true : (r : PlainRange) (p : Piece) → meets r p ≡ true → (p.range.first ≤ r.last) × (r.first ≤ p.range.last)
+pub meets_true : (r : PlainRange) (p : Piece) → piece_meets r p ≡ true → (p.range.first ≤ r.last) × (r.first ≤ p.range.last)
 meets_true r p e =
     let both = and_parts (nat_le p.range.first r.last) (nat_le r.first p.range.last) e in
     (leb-true p.range.first r.last both.0, leb-true r.first p.range.last both.1)
 
-pub meets_from : (r : PlainRange) (p : Piece) → p.range.first ≤ r.last → r.first ≤ p.range.last → meets r p ≡ true
+pub meets_from : (r : PlainRange) (p : Piece) → p.range.first ≤ r.last → r.first ≤ p.range.last → piece_meets r p ≡ true
 meets_from r p h k =
     and_from (nat_le p.range.first r.last) (nat_le r.first p.range.last) (le-leb p.range.first r.last h) (le-leb r.first p.range.last k)
 
 -- a piece that doesn't meet the range holds none of its numbers
-pub not_held_unmet : (r : PlainRange) (p : Piece) (n : ℕ) → meets r p ≡ false → r.first ≤ n → n ≤ r.last → holds p n ≡ false
+pub not_held_unmet : (r : PlainRange) (p : Piece) (n : ℕ) → piece_meets r p ≡ false → r.first ≤ n → n ≤ r.last → piece_holds p n ≡ false
 not_held_unmet r p n e h k =
-    elim (cases_Bool (holds p n)) [
+    elim (cases_Bool (piece_holds p n)) [
       | inl held ↦
           let inside = holds_true p n held in
-          absurd (both_ways (meets r p) e (meets_from r p (omega arith) (omega arith)))
+          absurd (both_ways (piece_meets r p) e (meets_from r p (omega arith) (omega arith)))
       | inr f ↦ f
     ]
 
@@ -36,11 +36,11 @@ least_taken_in_rest ps qs r same (Some n) h =
 overlap_from : (low : ℕ) (ps : List Piece) (r : PlainRange) → RisesFrom low ps → r.first ≤ r.last → IsLeastTaken ps r (overlap ps r)
 overlap_from low [] r rises h = λ x k l. refl
 overlap_from low (p ∷ ps) r rises h =
-    cond_both (meets r p) (Some p) (first_met ps r) (λ o. IsLeastTaken (p ∷ ps) r (option_map (λ q. max r.first q.range.first) o))
+    cond_both (piece_meets r p) (Some p) (first_met ps r) (λ o. IsLeastTaken (p ∷ ps) r (option_map (λ q. max r.first q.range.first) o))
     (λ e.
     let met = meets_true r p e in
     let n : ℕ = max r.first p.range.first in
-    let held : holds p n ≡ true = holds_from p n (omega arith) (omega arith) in (
+    let held : piece_holds p n ≡ true = holds_from p n (omega arith) (omega arith) in (
       omega arith,
       omega arith,
       ap is_some (piece_at-first p ps n held),

@@ -8,7 +8,7 @@ use Rattle.num_range.specs.declared.space.Space.{Space}
 use Rattle.num_range.specs.Range.{PlainRange, IsRange, size_of}
 use Rattle.reg_entry.specs.declared.card.Card.{Card}
 use Rattle.reg_entry.specs.declared.piece.Piece.{Piece}
-use Rattle.reg_entry.specs.Pieces.{meets, first_met, overlap, size_sum, part_below, part_above, can_join, joined_pair, joined_after, joined, laid, RisesFrom, ArePieces}
+use Rattle.reg_entry.specs.Pieces.{piece_meets, first_met, overlap, size_sum, part_below, part_above, can_join, joined_pair, joined_after, joined, laid, RisesFrom, ArePieces}
 use Rattle.reg_entry.proofs.Joining.{can_join_true}
 use Rattle.reg_entry.proofs.Laying.{kept_below, kept_above, painted_parts, painted_parts_rise}
 use Rattle.reg_entry.proofs.Overlaps.{meets_from}
@@ -100,23 +100,23 @@ size_sum-laid space ps r c h range =
     add_up : (laid parts b a c n s : ℕ) → laid ≡ parts → parts ≡ b + (n + a) → b + a + c ≡ s → laid + c ≡ s + n
     add_up laid parts b a c n s e f g = omega arith
 
-common_none : (r : PlainRange) (p : Piece) → meets r p ≡ false → common_size r p ≡ 0
+common_none : (r : PlainRange) (p : Piece) → piece_meets r p ≡ false → common_size r p ≡ 0
 common_none r p e =
     elim (cases_lt r.last p.range.first) [
       | inl before ↦ omega arith
       | inr le ↦
           elim (cases_lt p.range.last r.first) [
             | inl after ↦ omega arith
-            | inr ge ↦ absurd (both_ways (meets r p) e (meets_from r p le ge))
+            | inr ge ↦ absurd (both_ways (piece_meets r p) e (meets_from r p le ge))
           ]
     ]
 
-first_met_cases : (r : PlainRange) (p : Piece) (o q : Option Piece) → cond (meets r p) (Some p) o ≡ q
-    → ((meets r p ≡ true) × (Some p ≡ q)) ⊎ ((meets r p ≡ false) × (o ≡ q))
+first_met_cases : (r : PlainRange) (p : Piece) (o q : Option Piece) → cond (piece_meets r p) (Some p) o ≡ q
+    → ((piece_meets r p ≡ true) × (Some p ≡ q)) ⊎ ((piece_meets r p ≡ false) × (o ≡ q))
 first_met_cases r p o q h =
-    elim (cases_Bool (meets r p)) [
-      | inl e ↦ inl (e, sym (cond-true (meets r p) (Some p) o e) ∙ h)
-      | inr e ↦ inr (e, sym (cond-false (meets r p) (Some p) o e) ∙ h)
+    elim (cases_Bool (piece_meets r p)) [
+      | inl e ↦ inl (e, sym (cond-true (piece_meets r p) (Some p) o e) ∙ h)
+      | inr e ↦ inr (e, sym (cond-false (piece_meets r p) (Some p) o e) ∙ h)
     ]
 
 pub common_sum_unmet : (r : PlainRange) (ps : List Piece) → first_met ps r ≡ None → common_sum r ps ≡ 0

@@ -1,22 +1,16 @@
 -- The block that a delegation takes: the least aligned one whose numbers are all available.
 use Rattle.std.specs.Prelude.{◌≡◌, ℕ, ◌+◌, ◌-◌, ◌*◌, ◌/◌, ◌%◌, ◌≤◌, Bool, true, false, ◌&&◌, ◌||◌, nat_le, if◌then◌else◌, List, [], ◌∷◌, Option, None, Some}
 use Rattle.num_range.specs.declared.space.Space.{Space}
-use Rattle.num_range.specs.declared.space.Space.TheVariants.{Asn, Ipv4, Ipv6}
 use Rattle.num_range.specs.Space.{top_of}
+pub use Rattle.num_range.specs.Amount.{alignment}
 use Rattle.reg_entry.specs.declared.piece.Piece.{Piece}
 use Rattle.reg_entry.specs.Card.{is_available}
-use Rattle.reg_entry.specs.Pieces.{holds}
+use Rattle.reg_entry.specs.Pieces.{piece_holds}
 
 -- the number lies in an available piece
 abbrev pub is_free : List Piece → ℕ → Bool
 is_free [] n = false
-is_free (p ∷ ps) n = (is_available p.card.status && holds p n) || is_free ps n
-
--- a block of addresses starts at a multiple of its size (RFC 4632 3.1); AS numbers start anywhere
-abbrev pub alignment : Space → ℕ → ℕ
-alignment Asn size = 1
-alignment Ipv4 size = size
-alignment Ipv6 size = size
+is_free (p ∷ ps) n = (is_available p.card.status && piece_holds p n) || is_free ps n
 
 -- the block is aligned and within its space, and each of its numbers is available
 pub record IsFreeBlock (ps : List Piece) (space : Space) (size start : ℕ) : Type 0 where

@@ -1,9 +1,10 @@
 -- What an accepted request paints: its cover and its card.
-use Rattle.std.specs.Prelude.{ℕ, ◌+◌, ◌-◌, Option, None, Some}
+use Rattle.std.specs.Prelude.{◌≡◌, ℕ, ◌+◌, ◌-◌, Option, None, Some}
 use Rattle.std.specs.Option.{option_map, option_and_then}
 use Rattle.num_range.specs.declared.space.Space.{Space}
-use Rattle.num_range.specs.Number.{PlainNumber}
+pub use Rattle.num_range.specs.Number.{number_before}
 use Rattle.num_range.specs.Range.{PlainRange}
+pub use Rattle.num_range.specs.Range.{first_number}
 use Rattle.reg_entry.specs.declared.card.Card.{Card}
 use Rattle.reg_entry.specs.declared.card.Status.{Status}
 use Rattle.reg_entry.specs.declared.card.Status.TheVariants.{Reserved, Quarantine}
@@ -12,15 +13,9 @@ use Rattle.reg_entry.specs.declared.request.Request.{Request}
 use Rattle.reg_entry.specs.declared.request.Request.TheVariants.{Receive, AddHolder, EditHolder, Delegate, Reserve, Unreserve, SubAssign, SubReturn, Return, Release, Split, Join, Transfer, SetReverse, ClearReverse}
 use Rattle.reg_entry.specs.Card.{plain_card}
 use Rattle.reg_entry.specs.Request.{status_of, amount_size}
-use Rattle.reg_entry.specs.Blocks.{least_block}
+use Rattle.reg_entry.specs.Blocks.{least_block, IsLeastBlock}
 use Rattle.reg_entry.specs.Holders.{holder_number}
 use Rattle.reg_entry.specs.Register.{Register, register_pieces, piece_of}
-
-abbrev pub first_number : PlainRange → PlainNumber
-first_number r = record { space = r.space; value = r.first }
-
-abbrev pub number_before : PlainNumber → PlainNumber
-number_before n = record { space = n.space; value = n.value - 1 }
 
 -- the range of so many numbers
 abbrev pub range_from : Space → ℕ → ℕ → PlainRange
@@ -55,6 +50,13 @@ cover_for r (Join at) start = across (piece_of r.pool (number_before at)) (piece
 cover_for r (Transfer range from to) start = Some range
 cover_for r (SetReverse range servers) start = None
 cover_for r (ClearReverse range) start = None
+
+-- a Delegate's cover is the least free block of its size
+abbrev pub IsLeastCover : Register → Request → Option PlainRange → Type 0
+IsLeastCover r (Delegate space amount status handle) cover =
+    (start : ℕ) × (cover ≡ Some (range_from space start (amount_size space amount)))
+    × IsLeastBlock (register_pieces r space) space (amount_size space amount) (Some start)
+IsLeastCover r request cover = Unit {0}
 
 -- a card of the registry's own numbers
 abbrev pub kept_card : Status → ℕ → ℕ → Card

@@ -37,7 +37,7 @@ date_behind (suc years_left) year days =
       | false ↦ date_behind years_left (year + 1) (days - days_in_year (pos year))
     ]
 
--- the year, month and day of a day
+-- the year, month and day of a day: years are counted from that of day 0, 1970, and up to 9999 another 8,029 follow it
 unfoldable pub date_of_day : ℕ → ℕ × ℕ × ℕ
 date_of_day day = date_behind 8029 1970 day
 

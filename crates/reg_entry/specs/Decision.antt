@@ -21,7 +21,7 @@ use Rattle.reg_entry.specs.Entry.{PlainEntry}
 use Rattle.reg_entry.specs.Card.{is_available, is_delegated, same_status, same_card}
 use Rattle.reg_entry.specs.Request.{status_of, amount_size}
 use Rattle.reg_entry.specs.Policy.{PlainPolicy, policy_row, is_hostmaster, lists_kind}
-use Rattle.reg_entry.specs.Pieces.{overlap, holds}
+use Rattle.reg_entry.specs.Pieces.{overlap, piece_holds}
 use Rattle.reg_entry.specs.Partition.{piece_count}
 use Rattle.reg_entry.specs.Ranges.{same_range, lies_inside, value_of_range, first_meeting, ranges_inside, range_holds}
 use Rattle.reg_entry.specs.Holders.{holder_number, holder_named, handle_at}
@@ -70,7 +70,7 @@ outside_unicast range = outside_at range.space (least_outside_unicast range.spac
 -- the least number from x to the last that no piece holds; the pieces rise
 abbrev pub least_missing : List Piece → ℕ → ℕ → Option ℕ
 least_missing [] x last = if nat_le x last then Some x else None
-least_missing (p ∷ ps) x last = least_missing ps (if holds p x then p.range.last + 1 else x) last
+least_missing (p ∷ ps) x last = least_missing ps (if piece_holds p x then p.range.last + 1 else x) last
 
 abbrev pub outside_pool : Register → PlainRange → Option Refusal
 outside_pool r range = outside_at range.space (least_missing (register_pieces r range.space) range.first range.last)

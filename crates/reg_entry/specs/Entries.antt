@@ -2,7 +2,7 @@
 -- the number, and what was received.
 use Rattle.std.specs.Prelude.{ℕ, ◌+◌, Bool, false, if◌then◌else◌, List, [], ◌∷◌, Option, None, Some}
 use Rattle.std.specs.Option.{option_or}
-use Rattle.std.specs.List.{filter_map}
+use Rattle.std.specs.List.{filter_map, list_any}
 use Rattle.num_range.specs.declared.space.Space.{Space}
 use Rattle.num_range.specs.Number.{PlainNumber}
 use Rattle.num_range.specs.Range.{PlainRange, size_of}
@@ -34,6 +34,10 @@ received_range request = None
 abbrev pub received : List PlainEntry → List PlainRange
 received es = filter_map (λ e. received_range e.request) es
 
+-- one of the ranges that came into the pool has the number
+abbrev pub is_received : List PlainEntry → PlainNumber → Bool
+is_received es n = list_any (λ r. range_holds r n) (received es)
+
 -- how many numbers of a space an entry brought into the pool
 abbrev pub size_within : Space → Option PlainRange → ℕ
 size_within space None = 0
@@ -43,3 +47,19 @@ size_within space (Some r) = if same_space r.space space then size_of r else 0
 abbrev pub received_size : List PlainEntry → Space → ℕ
 received_size [] space = 0
 received_size (e ∷ es) space = size_within space (received_range e.request) + received_size es space
+
+-- ---- the days of a list of entries
+
+-- the day of the first entry, or 0 where there is none
+abbrev pub first_day_of : List PlainEntry → ℕ
+first_day_of [] = 0
+first_day_of (e ∷ es) = e.day
+
+-- the day of the last entry, or a day where there is none
+abbrev pub last_day_after : ℕ → List PlainEntry → ℕ
+last_day_after day [] = day
+last_day_after day (e ∷ es) = last_day_after e.day es
+
+-- the day of the last entry, or 0 where there is none
+abbrev pub last_day_of : List PlainEntry → ℕ
+last_day_of es = last_day_after 0 es

@@ -20,6 +20,7 @@ pub mod Entries
 pub mod Holders
 pub mod Register
 pub mod Sums
+pub mod Holdings
 pub mod Days
 pub mod Covers
 pub mod Decision

@@ -15,7 +15,7 @@ use Rattle.reg_entry.specs.Entry.{PlainEntry}
 use Rattle.reg_entry.specs.Card.{is_available, same_card}
 use Rattle.reg_entry.specs.Request.{amount_size, has_size, is_request}
 use Rattle.reg_entry.specs.Blocks.{alignment}
-use Rattle.reg_entry.specs.Pieces.{holds}
+use Rattle.reg_entry.specs.Pieces.{piece_holds}
 use Rattle.reg_entry.specs.Ranges.{same_range}
 use Rattle.reg_entry.specs.Days.{last_date}
 use Rattle.reg_entry.specs.Register.{Register, register_pieces, after_entry, empty_register}
@@ -24,7 +24,7 @@ use Rattle.reg_entry.specs.Decision.{first_of, early_rules, late_refusal}
 
 -- the piece is available and has all numbers from the first to the last
 abbrev pub has_free : ℕ → ℕ → Piece → Bool
-has_free first last p = is_available p.card.status && holds p first && holds p last
+has_free first last p = is_available p.card.status && piece_holds p first && piece_holds p last
 
 -- the block is aligned, within its space, and available; touching available pieces are always one
 abbrev pub is_free_block : List Piece → Space → ℕ → ℕ → Bool

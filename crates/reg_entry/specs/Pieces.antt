@@ -1,5 +1,5 @@
 -- The numbers of one space as a list of pieces, and how painting a card over a range changes it.
-use Rattle.std.specs.Prelude.{◌≡◌, ℕ, ◌+◌, ◌-◌, ◌^◌, ◌<◌, ◌≤◌, min, max, Bool, true, false, ◌&&◌, ◌==◌, nat_lt, nat_le, if◌then◌else◌, List, [], ◌∷◌, ◌++◌, Option, None, Some, MatchOption, IsSome, find}
+use Rattle.std.specs.Prelude.{◌≡◌, ℕ, ◌+◌, ◌-◌, ◌^◌, ◌<◌, ◌≤◌, min, max, Bool, true, false, ◌&&◌, ◌==◌, nat_lt, nat_le, if◌then◌else◌, List, [], ◌∷◌, ◌++◌, Option, None, Some, MatchOption, IsSome, find, filter, map}
 use Rattle.std.specs.List.{flat_map}
 use Rattle.std.specs.Option.{option_map}
 use Rattle.num_range.specs.declared.space.Space.{Space}
@@ -13,24 +13,28 @@ use Rattle.reg_entry.specs.Card.{is_available, plain_card}
 -- ---- looking up
 
 -- the value is one of the piece's numbers
-abbrev pub holds : Piece → ℕ → Bool
-holds p x = nat_le p.range.first x && nat_le x p.range.last
+abbrev pub piece_holds : Piece → ℕ → Bool
+piece_holds p x = nat_le p.range.first x && nat_le x p.range.last
 
 -- the piece and the range have a number in common
-abbrev pub meets : PlainRange → Piece → Bool
-meets r p = nat_le p.range.first r.last && nat_le r.first p.range.last
+abbrev pub piece_meets : PlainRange → Piece → Bool
+piece_meets r p = nat_le p.range.first r.last && nat_le r.first p.range.last
 
 -- the piece that holds the value
 abbrev pub piece_at : List Piece → ℕ → Option Piece
-piece_at ps x = find (λ p. holds p x) ps
+piece_at ps x = find (λ p. piece_holds p x) ps
 
 -- the card of the piece that holds the value
 abbrev pub card_at : List Piece → ℕ → Option Card
 card_at ps x = option_map (λ p. p.card) (piece_at ps x)
 
+-- the cards of all pieces that hold the value: of pieces that rise it is one card at most
+abbrev pub cards_at : List Piece → ℕ → List Card
+cards_at ps x = map (λ p. p.card) (filter (λ p. piece_holds p x) ps)
+
 -- the first piece that has a number in common with the range
 abbrev pub first_met : List Piece → PlainRange → Option Piece
-first_met ps r = find (meets r) ps
+first_met ps r = find (piece_meets r) ps
 
 -- the least number of the range that some piece has
 abbrev pub overlap : List Piece → PlainRange → Option ℕ

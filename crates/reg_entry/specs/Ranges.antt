@@ -2,31 +2,8 @@
 use Rattle.std.specs.Prelude.{◌≡◌, Bool, true, not, ◌&&◌, ◌||◌, ◌==◌, nat_lt, nat_le, if◌then◌else◌, List, [], ◌∷◌, Option, filter, find}
 use Rattle.std.specs.Option.{option_map}
 pub use Rattle.num_range.specs.Space.{space_rank, same_space}
-use Rattle.num_range.specs.Number.{PlainNumber}
 use Rattle.num_range.specs.Range.{PlainRange, IsRange}
-
--- ---- ranges compared
-
-abbrev pub same_range : PlainRange → PlainRange → Bool
-same_range r s = same_space r.space s.space && (r.first == s.first) && (r.last == s.last)
-
--- by space, then by first, then by last number
-abbrev pub range_before : PlainRange → PlainRange → Bool
-range_before r s =
-    nat_lt (space_rank r.space) (space_rank s.space)
-    || (same_space r.space s.space && (nat_lt r.first s.first || ((r.first == s.first) && nat_lt r.last s.last)))
-
--- the number is one of the range's
-abbrev pub range_holds : PlainRange → PlainNumber → Bool
-range_holds r n = same_space r.space n.space && nat_le r.first n.value && nat_le n.value r.last
-
--- each number of the inner range is one of the outer's
-abbrev pub lies_inside : PlainRange → PlainRange → Bool
-lies_inside inner outer = same_space inner.space outer.space && nat_le outer.first inner.first && nat_le inner.last outer.last
-
--- the ranges have a number in common
-abbrev pub ranges_meet : PlainRange → PlainRange → Bool
-ranges_meet r s = same_space r.space s.space && nat_le r.first s.last && nat_le s.first r.last
+pub use Rattle.num_range.specs.Range.{same_range, range_before, range_holds, lies_inside, ranges_meet}
 
 -- the whole of the first range lies before the second
 abbrev pub IsBelow : PlainRange → PlainRange → Type 0

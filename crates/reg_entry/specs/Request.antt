@@ -1,11 +1,9 @@
 -- Requests: what their words mean apart from any register.
-use Rattle.std.specs.Prelude.{◌≡◌, ℕ, Bool, true, ◌&&◌, nat_le, List, length}
+use Rattle.std.specs.Prelude.{◌≡◌, ℕ, Bool, true, false, ◌&&◌, nat_le, List, length}
 use Rattle.num_range.specs.Number.{PlainNumber}
 use Rattle.num_range.specs.Range.{PlainRange}
-use Rattle.num_range.specs.declared.space.Space.{Space}
-use Rattle.num_range.specs.declared.space.Space.TheVariants.{Asn, Ipv4, Ipv6}
 use Rattle.num_range.specs.Space.{top_of}
-use Rattle.num_range.specs.Block.{block_size}
+pub use Rattle.num_range.specs.Amount.{amount_size, has_size}
 use Rattle.reg_entry.specs.declared.card.Status.{Status}
 use Rattle.reg_entry.specs.declared.card.Status.TheVariants.{Allocated, Assigned}
 use Rattle.reg_entry.specs.declared.request.Request.{Request}
@@ -18,17 +16,11 @@ abbrev pub status_of : Delegation → Status
 status_of Allocate = Allocated
 status_of Assign = Assigned
 
--- how many numbers an amount asks for: a count of AS numbers, or a prefix length (RFC 4632 3.1)
-abbrev pub amount_size : Space → ℕ → ℕ
-amount_size Asn amount = amount
-amount_size Ipv4 amount = block_size Ipv4 amount
-amount_size Ipv6 amount = block_size Ipv6 amount
-
--- the amounts that can be asked for: no more of IPv6 than all of global unicast, 2000::/3 (RFC 4291 2.4)
-abbrev pub has_size : Space → ℕ → Bool
-has_size Asn amount = nat_le 1 amount && nat_le amount 1024
-has_size Ipv4 amount = nat_le amount 32
-has_size Ipv6 amount = nat_le 3 amount && nat_le amount 128
+-- the request cuts or joins pieces, and paints nothing
+abbrev pub is_reshaping : Request → Bool
+is_reshaping (Split at) = true
+is_reshaping (Join at) = true
+is_reshaping request = false
 
 -- the amount of a Delegate is one that can be asked for
 abbrev pub IsSizedRequest : Request → Type 0
@@ -43,8 +35,8 @@ abbrev pub is_number : PlainNumber → Bool
 is_number n = nat_le n.value (top_of n.space)
 
 -- a reverse entry has one to four name servers
-abbrev pub are_servers : List (List ℕ) → Bool
-are_servers hosts = nat_le 1 (length hosts) && nat_le (length hosts) 4
+abbrev pub is_server_count : List (List ℕ) → Bool
+is_server_count hosts = nat_le 1 (length hosts) && nat_le (length hosts) 4
 
 -- the ranges and numbers that a request names are those of their spaces, and its servers as many as there may be, as
 -- those of each request of the program are
@@ -62,5 +54,5 @@ is_request (Release range) = is_range range
 is_request (Split at) = is_number at
 is_request (Join at) = is_number at
 is_request (Transfer range from to) = is_range range
-is_request (SetReverse range servers) = is_range range && are_servers servers
+is_request (SetReverse range servers) = is_range range && is_server_count servers
 is_request (ClearReverse range) = is_range range

@@ -20,9 +20,12 @@ abbrev pub ranges_size : List (PlainRange × SubCard) → ℕ
 ranges_size [] = 0
 ranges_size (s ∷ ss) = size_of s.0 + ranges_size ss
 
--- the numbers of a space that have a status
-abbrev pub status_sum : Register → Space → Status → ℕ
-status_sum r space status = size_sum (filter (λ p. same_status p.card.status status) (register_pieces r space))
+abbrev pub has_status : Status → Piece → Bool
+has_status status p = same_status p.card.status status
+
+-- how many numbers the pieces of the status have
+abbrev pub status_sum : List Piece → Status → ℕ
+status_sum ps status = size_sum (filter (has_status status) ps)
 
 abbrev pub is_held_by : ℕ → Piece → Bool
 is_held_by holder p = is_delegated p.card.status && option_eq nat_eq p.card.holder (Some holder)

@@ -26,12 +26,12 @@ use Rattle.reg_entry.specs.Operations.{PlainBoard}
 -- ---- of each card, holder, sub and reverse entry
 
 -- a holder of this number is there
-abbrev pub IsHolderNumber : Register → Option ℕ → Type 0
-IsHolderNumber r holder = IsSomeAnd holder (λ number. number < length r.holders)
+abbrev pub IsKnownHolder : Register → Option ℕ → Type 0
+IsKnownHolder r holder = IsSomeAnd holder (λ number. number < length r.holders)
 
 -- a delegated card has a holder that is there, and a day; all others have none
 pub record IsCardIn (r : Register) (c : Card) : Type 0 where
-  pub holder : is_delegated c.status ≡ true → IsHolderNumber r c.holder
+  pub holder : is_delegated c.status ≡ true → IsKnownHolder r c.holder
   pub nobody : is_delegated c.status ≡ false → c.holder ≡ None
   pub dated : is_delegated c.status ≡ true → 1 ≤ c.day
   pub day : c.day ≤ r.last_day

@@ -1,5 +1,5 @@
 ghost use Rattle.std.specs.Prelude.{◌≡◌};
-ghost use Rattle.reg_entry.specs.Card.{is_available, plain_card};
+ghost use Rattle.reg_entry.specs.Card.{is_available, is_delegated, plain_card};
 
 /// What may be done with the numbers of a piece, and what was.
 #[derive(Clone, Copy, Debug, PartialEq, Eq, PartialOrd, Ord, Hash)]
@@ -21,6 +21,13 @@ impl Status {
         ensures { result ≡ is_available self }
     {
         matches!(self, Status::Available)
+    }
+
+    /// Whether numbers of this status are a holder's.
+    pub fn is_delegated(self) -> bool
+        ensures { result ≡ is_delegated self }
+    {
+        matches!(self, Status::Allocated | Status::Assigned)
     }
 }
 

@@ -1,3 +1,6 @@
+ghost use Rattle.std.specs.Prelude.{◌≡◌};
+ghost use Rattle.reg_entry.specs.Decision.{refuse_if};
+
 use crate::{Handle, Kind, Status};
 use num_range::{Number, Range};
 
@@ -58,4 +61,13 @@ pub enum Refusal {
     SubsFull { room: u32 },
     /// There are as many reverse entries as there is room for.
     ReverseFull { room: u32 },
+}
+
+impl Refusal {
+    /// This refusal, where its condition holds.
+    pub fn when(self, condition: bool) -> Option<Refusal>
+        ensures { result ≡ refuse_if condition self }
+    {
+        if condition { Some(self) } else { None }
+    }
 }

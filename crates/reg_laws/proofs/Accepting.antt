@@ -13,25 +13,26 @@ use Rattle.reg_entry.specs.declared.piece.Piece.{Piece}
 use Rattle.reg_entry.specs.declared.policy.Row.{Row}
 use Rattle.reg_entry.specs.declared.refusal.Refusal.{Refusal}
 use Rattle.reg_entry.specs.declared.refusal.Refusal.TheVariants.{OutsidePool, LengthOutOfPolicy, NoBlock}
+use Rattle.reg_entry.specs.declared.request.Delegation.{Delegation}
 use Rattle.reg_entry.specs.declared.request.Request.{Request}
 use Rattle.reg_entry.specs.declared.request.Request.TheVariants.{Receive, AddHolder, EditHolder, Delegate, Reserve, Unreserve, SubAssign, SubReturn, Return, Release, Split, Join, Transfer, SetReverse, ClearReverse}
 use Rattle.reg_entry.specs.Entry.{PlainEntry}
 use Rattle.reg_entry.specs.Card.{is_available}
 use Rattle.reg_entry.specs.Request.{status_of, amount_size, has_size, is_range, is_request}
 use Rattle.reg_entry.specs.Policy.{PlainPolicy, policy_row, IsPolicy}
-use Rattle.reg_entry.specs.Pieces.{holds, piece_at, AllPiecesOf}
+use Rattle.reg_entry.specs.Pieces.{piece_holds, piece_at, AllPiecesOf}
 use Rattle.reg_entry.specs.Partition.{IsPartition}
-use Rattle.reg_entry.specs.Blocks.{alignment, rounded_up, least_block}
+use Rattle.reg_entry.specs.Blocks.{alignment, rounded_up, least_block, IsLeastBlock}
 use Rattle.reg_entry.specs.Days.{last_date, days_later}
 use Rattle.reg_entry.specs.Register.{Register, register_pieces, piece_of}
 use Rattle.reg_entry.specs.Ranges.{same_range}
 use Rattle.reg_entry.specs.Card.{same_card}
 use Rattle.reg_entry.specs.Holders.{holder_number}
-use Rattle.reg_entry.specs.Covers.{first_number, chosen_start, cover_for, card_for, range_from, holder_card}
+use Rattle.reg_entry.specs.Covers.{first_number, chosen_start, cover_for, card_for, range_from, holder_card, IsLeastCover}
 use Rattle.reg_entry.specs.Decision.{first_of, refuse_if, unknown_hostmaster, least_missing, outside_pool, amount_out_of_policy, no_block, early_rules, policy_rules, late_refusal, until_for, entry_day, proposed_entry, refusal_of, reply_of, decision, IfAccepted}
 use Rattle.reg_entry.specs.Next.{has_free, is_free_block, start_of, block_may_be, until_of, until_may_be, day_may_be, same_cover, same_painted, may_come_next, IsNextEntry}
 use Rattle.reg_entry.proofs.Holding.{holds_from}
-use Rattle.reg_entry.proofs.LeastBlock.{rounded_up_no_less, rounded_up_is_multiple, alignment_pos}
+use Rattle.reg_entry.proofs.LeastBlock.{least_block_is_least, rounded_up_no_less, rounded_up_is_multiple, alignment_pos}
 use Rattle.reg_laws.proofs.Sameness.{same_range-refl, same_card-refl, option_eq-refl}
 
 -- ---- refusals
@@ -52,11 +53,11 @@ map_none f (Some x) e = absurd (none-some (f x) (sym e))
 pub held_first : (ps : List Piece) (x last : ℕ) → x ≤ last → least_missing ps x last ≡ None → is_some (piece_at ps x) ≡ true
 held_first [] x last h e = absurd (none-some x (sym e ∙ cond-true (nat_le x last) (Some x) None (le-leb x last h)))
 held_first (p ∷ ps) x last h e =
-    elim (cases_Bool (holds p x)) [
-      | inl t ↦ ap is_some (cond-true (holds p x) (Some p) (piece_at ps x) t)
+    elim (cases_Bool (piece_holds p x)) [
+      | inl t ↦ ap is_some (cond-true (piece_holds p x) (Some p) (piece_at ps x) t)
       | inr f ↦
-          let same : least_missing ps x last ≡ None = ap (λ y. least_missing ps y last) (sym (cond-false (holds p x) (p.range.last + 1) x f)) ∙ e in
-          ap is_some (cond-false (holds p x) (Some p) (piece_at ps x) f) ∙ held_first ps x last h same
+          let same : least_missing ps x last ≡ None = ap (λ y. least_missing ps y last) (sym (cond-false (piece_holds p x) (p.range.last + 1) x f)) ∙ e in
+          ap is_some (cond-false (piece_holds p x) (Some p) (piece_at ps x) f) ∙ held_first ps x last h same
     ]
 
 pub range_valid : (r : PlainRange) → is_range r ≡ true → IsRange r
@@ -96,8 +97,8 @@ least_is_free space (p ∷ ps) size x pos each e =
           (eq-eqb (start % alignment space size) 0 (rounded_up_is_multiple p.range.first (alignment space size)))
           (le-leb (start + (size - 1)) (top_of space) (omega arith)))
           (or_left (has_free start (start + (size - 1)) p) (list_any (has_free start (start + (size - 1))) ps)
-          (and_from (is_available p.card.status && holds p start) (holds p (start + (size - 1)))
-          (and_from (is_available p.card.status) (holds p start) both.0 (holds_from p start first (omega arith)))
+          (and_from (is_available p.card.status && piece_holds p start) (piece_holds p (start + (size - 1)))
+          (and_from (is_available p.card.status) (piece_holds p start) both.0 (holds_from p start first (omega arith)))
           (holds_from p (start + (size - 1)) (omega arith) last))))
       | inr f ↦
           let rest : is_free_block ps space size x ≡ true =
@@ -144,19 +145,55 @@ allowed r p day who request e =
     let c = or_none (first_of (policy_rules r p request)) (late_refusal r (proposed_entry r p day who request)) b.1 in
     record { early = b.0; policy = c.0; late = c.1 }
 
-block_is_right : (r : Register) (p : PlainPolicy) (day : ℕ) (who : List ℕ) (request : Request) → CanDecide r p request
-    → IsAllowed r p day who request → block_may_be r request (start_of (cover_for r request (chosen_start r request))) ≡ true
-block_is_right r p day who (Delegate space amount status handle) can is =
+-- the amount of a delegation that is allowed has a size, and there is a block of it
+delegated_block : (r : Register) (p : PlainPolicy) (day : ℕ) (who : List ℕ) (space : Space) (amount : ℕ) (status : Delegation) (handle : List ℕ)
+    → CanDecide r p (Delegate space amount status handle) → IsAllowed r p day who (Delegate space amount status handle)
+    → (has_size space amount ≡ true)
+    × (is_some (cover_for r (Delegate space amount status handle) (chosen_start r (Delegate space amount status handle))) ≡ true)
+delegated_block r p day who space amount status handle can is =
     let row : Row = policy_row p space (status_of status) in
     let out = refuse_if_none (nat_lt amount row.least || nat_lt row.most amount) (LengthOutOfPolicy row.least row.most)
     (or_none (amount_out_of_policy row amount) _ is.policy).0 in
     let bounds = or_parts (nat_lt amount row.least) (nat_lt row.most amount) out in
-    let sized : has_size space amount ≡ true =
-    can.policy.rows space (status_of status) amount (ltb-false amount row.least bounds.0) (ltb-false row.most amount bounds.1) in
-    let cover : Option PlainRange = cover_for r (Delegate space amount status handle) (chosen_start r (Delegate space amount status handle)) in
-    let some : is_some cover ≡ true = not-false (is_some cover) (refuse_if_none (not (is_some cover)) NoBlock (or_none (no_block cover) _ is.late).0) in
+    let cover : Option PlainRange = cover_for r (Delegate space amount status handle) (chosen_start r (Delegate space amount status handle)) in (
+      can.policy.rows space (status_of status) amount (ltb-false amount row.least bounds.0) (ltb-false row.most amount bounds.1),
+      not-false (is_some cover) (refuse_if_none (not (is_some cover)) NoBlock (or_none (no_block cover) _ is.late).0),
+    )
+
+least_from : (ps : List Piece) (space : Space) (size : ℕ) (start : Option ℕ) → IsLeastBlock ps space size start
+    → is_some (option_map (λ x. range_from space x size) start) ≡ true
+    → (x : ℕ) × (option_map (λ y. range_from space y size) start ≡ Some (range_from space x size)) × IsLeastBlock ps space size (Some x)
+least_from ps space size None least some = absurd (both_ways false refl some)
+least_from ps space size (Some x) least some = (x, refl, least)
+
+cover_is_least : (r : Register) (p : PlainPolicy) (day : ℕ) (who : List ℕ) (request : Request) → CanDecide r p request
+    → IsAllowed r p day who request → IsLeastCover r request (cover_for r request (chosen_start r request))
+cover_is_least r p day who (Delegate space amount status handle) can is =
+    let found = delegated_block r p day who space amount status handle can is in
+    let ps : List Piece = register_pieces r space in
+    let size : ℕ = amount_size space amount in
+    least_from ps space size (least_block ps space size) (least_block_is_least space ps size (can.pool.each space) (size_pos space amount found.0)) found.1
+cover_is_least r p day who (Receive range) can is = tt
+cover_is_least r p day who (AddHolder holder) can is = tt
+cover_is_least r p day who (EditHolder holder) can is = tt
+cover_is_least r p day who (Reserve range) can is = tt
+cover_is_least r p day who (Unreserve range) can is = tt
+cover_is_least r p day who (SubAssign range handle) can is = tt
+cover_is_least r p day who (SubReturn range) can is = tt
+cover_is_least r p day who (Return range handle) can is = tt
+cover_is_least r p day who (Release range) can is = tt
+cover_is_least r p day who (Split at) can is = tt
+cover_is_least r p day who (Join at) can is = tt
+cover_is_least r p day who (Transfer range from to) can is = tt
+cover_is_least r p day who (SetReverse range servers) can is = tt
+cover_is_least r p day who (ClearReverse range) can is = tt
+
+block_is_right : (r : Register) (p : PlainPolicy) (day : ℕ) (who : List ℕ) (request : Request) → CanDecide r p request
+    → IsAllowed r p day who request → block_may_be r request (start_of (cover_for r request (chosen_start r request))) ≡ true
+block_is_right r p day who (Delegate space amount status handle) can is =
+    let found = delegated_block r p day who space amount status handle can is in
     block_from space amount (register_pieces r space) (least_block (register_pieces r space) space (amount_size space amount))
-    (can.pool.each space).each sized refl some
+    (can.pool.each space).each found.0 refl found.1
 block_is_right r p day who (Receive range) can is = refl
 block_is_right r p day who (AddHolder holder) can is = refl
 block_is_right r p day who (EditHolder holder) can is = refl
@@ -298,3 +335,9 @@ pub accepted_is_next : (r : Register) (p : PlainPolicy) (day : ℕ) (who : List 
 accepted_is_next r p day who request can =
     if_accepted (refusal_of r p day who request) (proposed_entry r p day who request) (IsNextEntry r)
     (λ none. proposed_is_next r p day who request can (allowed r p day who request none))
+
+pub accepted_is_least : (r : Register) (p : PlainPolicy) (day : ℕ) (who : List ℕ) (request : Request) → CanDecide r p request
+    → IfAccepted (decision r p day who request) (λ e. IsLeastCover r e.request e.cover)
+accepted_is_least r p day who request can =
+    if_accepted (refusal_of r p day who request) (proposed_entry r p day who request) (λ e. IsLeastCover r e.request e.cover)
+    (λ none. cover_is_least r p day who request can (allowed r p day who request none))

@@ -12,14 +12,14 @@ use Rattle.reg_entry.specs.Pieces.{part_below, part_above, can_join, joined_pair
 use Rattle.reg_entry.specs.Partition.{Partition, pieces_in, with_pieces}
 use Rattle.reg_entry.specs.Reshaping.{holds_past_first, split_at_number, joined_at_after, joined_at}
 use Rattle.reg_entry.specs.Register.{Register, reshaped, painted, pool_after}
-use Rattle.reg_entry.specs.Whole.{IsHolderNumber, IsCardIn, HaveCardsIn}
+use Rattle.reg_entry.specs.Whole.{IsKnownHolder, IsCardIn, HaveCardsIn}
 use Rattle.reg_entry.proofs.Laying.{kept_below, kept_above, painted_parts}
 use Rattle.reg_laws.proofs.Painted.{with_pieces_has}
-use Rattle.reg_laws.proofs.Reshaped.{left_part, right_part}
+use Rattle.reg_entry.proofs.Reshaped.{left_part, right_part}
 
 -- ---- in a register with more holders and a later day
 
-number_moved : (r s : Register) (holder : Option ℕ) → length r.holders ≤ length s.holders → IsHolderNumber r holder → IsHolderNumber s holder
+number_moved : (r s : Register) (holder : Option ℕ) → length r.holders ≤ length s.holders → IsKnownHolder r holder → IsKnownHolder s holder
 number_moved r s None h k = absurd k
 number_moved r s (Some number) h k = omega arith
 

@@ -1,14 +1,14 @@
 -- Each entry that may come next keeps the pool, its cards and its numbers.
-use Rattle.std.proofs.Common.{◌≡◌, ℕ, ◌+◌, ◌-◌, ◌%◌, ◌^◌, ◌<◌, ◌≤◌, max, true, false, cond, ◌&&◌, ◌==◌, nat_lt, nat_le, inl, inr, List, [], ◌∷◌, Option, None, Some, refl, sym, ◌∙◌, ap, subst, arith}
-use Rattle.std.specs.Option.{option_or, option_map, option_map_or}
-use Rattle.std.specs.List.{list_any}
+use Rattle.std.proofs.Common.{◌≡◌, ℕ, ◌+◌, ◌-◌, ◌%◌, ◌^◌, ◌<◌, ◌≤◌, max, Bool, true, false, cond, ◌&&◌, ◌||◌, ◌==◌, nat_lt, nat_le, inl, inr, List, [], ◌∷◌, Option, None, Some, refl, sym, ◌∙◌, ap, subst, arith}
+use Rattle.std.specs.Option.{is_some, option_or, option_map, option_map_or}
+use Rattle.std.specs.List.{list_any, cons_option}
 use Rattle.std.proofs.lemmas.Bool.{cond-true, cond-false, cases_Bool, both_ways, and_parts, eqb-true, eqb-false, ltb-false, ltb-true}
 use Rattle.std.proofs.lemmas.Option.{none-some}
 use Rattle.num_range.specs.declared.space.Space.{Space}
 use Rattle.num_range.specs.declared.space.Space.TheVariants.{Asn, Ipv4, Ipv6}
 use Rattle.num_range.specs.Space.{top_of}
 use Rattle.num_range.specs.Number.{PlainNumber}
-use Rattle.num_range.specs.Range.{PlainRange}
+use Rattle.num_range.specs.Range.{PlainRange, range_holds}
 use Rattle.reg_entry.specs.declared.card.Card.{Card}
 use Rattle.reg_entry.specs.declared.card.Status.{Status}
 use Rattle.reg_entry.specs.declared.card.Status.TheVariants.{Available, Reserved, Quarantine, Allocated, Assigned}
@@ -26,7 +26,7 @@ use Rattle.reg_entry.specs.Blocks.{alignment}
 use Rattle.reg_entry.specs.Pieces.{card_at, size_sum, overlap, IsCard, ArePieces}
 use Rattle.reg_entry.specs.Partition.{Partition, pieces_in, IsPartition, empty_partition}
 use Rattle.reg_entry.specs.Ranges.{space_rank}
-use Rattle.reg_entry.specs.Entries.{painted_card, last_card, received_size, received_range, size_within}
+use Rattle.reg_entry.specs.Entries.{covers, painted_card, last_card, received, received_size, received_range, is_received, size_within}
 use Rattle.reg_entry.specs.Holders.{holder_number}
 use Rattle.reg_entry.specs.Reshaping.{split_at_number, joined_at}
 use Rattle.reg_entry.specs.Register.{Register, register_pieces, piece_of, card_of, pool_after, after_entry, after_entries, register_after, empty_register}
@@ -34,10 +34,10 @@ use Rattle.reg_entry.specs.Covers.{first_number, number_before, range_from, cove
 use Rattle.reg_entry.specs.Decision.{first_of, outside_unicast, least_outside_unicast, least_unpooled, already_pooled, outside_pool, number_outside_pool, begins_space, begins_no_piece, not_in_one_piece, not_one_piece, wrong_status, cards_differ, early_rules}
 use Rattle.reg_entry.specs.Next.{start_of, until_of, block_may_be, is_free_block, has_free, IsNextEntry, IsLegalFrom, IsLegal}
 use Rattle.reg_entry.specs.declared.rooms.Rooms.{Rooms}
-use Rattle.reg_laws.specs.Reshaping.{IsFixedAt, CanJoinAt}
+use Rattle.reg_entry.specs.Reshaping.{IsFixedAt, CanJoinAt}
 use Rattle.reg_laws.proofs.Sameness.{same_card-true}
 use Rattle.reg_laws.proofs.Accepting.{or_none, refuse_if_none, map_none, range_valid}
-use Rattle.reg_laws.proofs.Reshaped.{card_at-split, size_sum-split, split_keeps, card_at-joined_at, size_sum-joined_at, join_keeps}
+use Rattle.reg_entry.proofs.Reshaped.{card_at-split, size_sum-split, split_keeps, card_at-joined_at, size_sum-joined_at, join_keeps}
 use Rattle.reg_laws.proofs.NextFacts.{next_facts, inside_one, exactly_one, one_is_inside, right_status, number_in_pool, allowed_if, on_the_piece, IsInPiece, IsOnePiece, free_piece}
 use Rattle.reg_laws.proofs.Painted.{IsConserved, unchanged, rearranged, painted_inside, received_conserves}
 
@@ -239,7 +239,7 @@ next_conserves r e h next =
 
 -- ---- lists of entries
 
-or_assoc : {A : Type 0} (x y z : Option A) → option_or x (option_or y z) ≡ option_or (option_or x y) z
+pub or_assoc : {A : Type 0} (x y z : Option A) → option_or x (option_or y z) ≡ option_or (option_or x y) z
 or_assoc None y z = refl
 or_assoc (Some a) y z = refl
 
@@ -255,6 +255,33 @@ cards_from r (e ∷ es) n h legal =
     cards_from (after_entry r e) es n step.partition legal.1
     ∙ ap (λ o. option_or (last_card es n) o) (step.cards n)
     ∙ or_assoc (last_card es n) (painted_card e n) (card_of r.pool n)
+
+-- one entry more: what it received comes first
+received_first : (o : Option PlainRange) (rs : List PlainRange) (n : PlainNumber)
+    → list_any (λ r. range_holds r n) (cons_option o rs) ≡ covers o n || list_any (λ r. range_holds r n) rs
+received_first None rs n = refl
+received_first (Some r) rs n = refl
+
+turned_or : (a b c : Bool) → (a || (b || c)) ≡ ((b || a) || c)
+turned_or true true c = refl
+turned_or true false c = refl
+turned_or false true c = refl
+turned_or false false c = refl
+
+-- the numbers with a last card, or with one before, are those that were received, or had one before
+pub pooled_from : (r : Register) (es : List PlainEntry) (n : PlainNumber) → IsPartition r.pool → IsLegalFrom r es
+    → is_some (option_or (last_card es n) (card_of r.pool n)) ≡ is_received es n || is_some (card_of r.pool n)
+pooled_from r [] n h legal = refl
+pooled_from r (e ∷ es) n h legal =
+    let step = next_conserves r e h legal.0 in
+    let old : Option Card = card_of r.pool n in
+    ap is_some (sym (or_assoc (last_card es n) (painted_card e n) old))
+    ∙ ap (λ o. is_some (option_or (last_card es n) o)) (sym (step.cards n))
+    ∙ pooled_from (after_entry r e) es n step.partition legal.1
+    ∙ ap (λ o. is_received es n || is_some o) (step.cards n)
+    ∙ ap (λ b. is_received es n || b) (step.pooled n)
+    ∙ turned_or (is_received es n) (covers (received_range e.request) n) (is_some old)
+    ∙ ap (λ b. b || is_some old) (sym (received_first (received_range e.request) (received es) n))
 
 pub sizes_from : (r : Register) (es : List PlainEntry) (space : Space) → IsPartition r.pool → IsLegalFrom r es
     → size_sum (register_pieces (after_entries r es) space) ≡ received_size es space + size_sum (register_pieces r space)
@@ -281,7 +308,7 @@ none_of_empty n Asn = refl
 none_of_empty n Ipv4 = refl
 none_of_empty n Ipv6 = refl
 
-or_nothing : {A : Type 0} (o : Option A) → option_or o None ≡ o
+pub or_nothing : {A : Type 0} (o : Option A) → option_or o None ≡ o
 or_nothing None = refl
 or_nothing (Some a) = refl
 
@@ -308,3 +335,16 @@ legal_sizes rooms es space legal =
   where
     plus_zero : (n : ℕ) → n + 0 ≡ n
     plus_zero n = omega arith
+
+-- the numbers with a last card are those that were received
+pub legal_pooled : (rooms : Rooms) (es : List PlainEntry) (n : PlainNumber) → IsLegal rooms es → is_some (last_card es n) ≡ is_received es n
+legal_pooled rooms es n legal =
+    let none : card_of (empty_register rooms).pool n ≡ None = none_of_empty n n.space in
+    ap is_some (sym (or_nothing (last_card es n)) ∙ ap (λ o. option_or (last_card es n) o) (sym none))
+    ∙ pooled_from (empty_register rooms) es n empty_is_partition legal
+    ∙ ap (λ o. is_received es n || is_some o) none
+    ∙ or_false (is_received es n)
+  where
+    or_false : (b : Bool) → (b || false) ≡ b
+    or_false true = refl
+    or_false false = refl

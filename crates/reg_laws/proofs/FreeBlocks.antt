@@ -8,7 +8,7 @@ use Rattle.num_range.specs.Space.{top_of}
 use Rattle.num_range.specs.Range.{PlainRange}
 use Rattle.reg_entry.specs.declared.piece.Piece.{Piece}
 use Rattle.reg_entry.specs.Card.{is_available}
-use Rattle.reg_entry.specs.Pieces.{holds, piece_at, RisesFrom, IsSettledAfter, IsSettled, ArePieces}
+use Rattle.reg_entry.specs.Pieces.{piece_holds, piece_at, RisesFrom, IsSettledAfter, IsSettled, ArePieces}
 use Rattle.reg_entry.specs.Blocks.{is_free, alignment, IsFreeBlock}
 use Rattle.reg_entry.specs.Decision.{least_missing}
 use Rattle.reg_entry.specs.Next.{has_free, is_free_block}
@@ -23,8 +23,8 @@ free_within [] first last n e h k = absurd (false≢true e)
 free_within (p ∷ ps) first last n e h k =
     elim (or_cases (has_free first last p) (list_any (has_free first last) ps) e) [
       | inl t ↦
-          let a = and_parts (is_available p.card.status && holds p first) (holds p last) t in
-          let b = and_parts (is_available p.card.status) (holds p first) a.0 in
+          let a = and_parts (is_available p.card.status && piece_holds p first) (piece_holds p last) t in
+          let b = and_parts (is_available p.card.status) (piece_holds p first) a.0 in
           let f = holds_true p first b.1 in
           let l = holds_true p last a.1 in
           free_in_first p ps n b.0 (omega arith) (omega arith)
@@ -45,8 +45,8 @@ run_in_one low (p ∷ ps) first last rises settled order free =
           let begins : p.range.first ≤ first = here.1 in
           let inside : first ≤ p.range.last = here.2 in
           or_left (has_free first last p) (list_any (has_free first last) ps)
-          (and_from (is_available p.card.status && holds p first) (holds p last)
-          (and_from (is_available p.card.status) (holds p first) here.0 (holds_from p first begins inside)) (holds_from p last (omega arith) ends))
+          (and_from (is_available p.card.status && piece_holds p first) (piece_holds p last)
+          (and_from (is_available p.card.status) (piece_holds p first) here.0 (holds_from p first begins inside)) (holds_from p last (omega arith) ends))
       | inr rest ↦
           let above : p.range.last + 1 ≤ first = free_from (p.range.last + 1) ps first rises.2 rest in
           or_right (has_free first last p) (list_any (has_free first last) ps)
@@ -85,12 +85,12 @@ missing_from low [] x last rises =
     (λ t. (omega arith, leb-true x last t, refl, λ y h k. absurd (let no : ⊥ = omega arith in no)))
     (λ f. λ y h k. absurd (let past : last < x = leb-false x last f in let no : ⊥ = omega arith in no))
 missing_from low (p ∷ ps) x last rises =
-    elim (cases_Bool (holds p x)) [
+    elim (cases_Bool (piece_holds p x)) [
       | inl t ↦
-          subst (IsLeastMissing (p ∷ ps) x last) (ap (λ y. least_missing ps y last) (sym (cond-true (holds p x) (p.range.last + 1) x t)))
+          subst (IsLeastMissing (p ∷ ps) x last) (ap (λ y. least_missing ps y last) (sym (cond-true (piece_holds p x) (p.range.last + 1) x t)))
           (held p ps x last (holds_true p x t) (least_missing ps (p.range.last + 1) last) (missing_from (p.range.last + 1) ps (p.range.last + 1) last rises.2))
       | inr f ↦
-          subst (IsLeastMissing (p ∷ ps) x last) (ap (λ y. least_missing ps y last) (sym (cond-false (holds p x) (p.range.last + 1) x f)))
+          subst (IsLeastMissing (p ∷ ps) x last) (ap (λ y. least_missing ps y last) (sym (cond-false (piece_holds p x) (p.range.last + 1) x f)))
           (elim (cases_lt p.range.last x) [
             | inl past ↦ above p ps x last past (least_missing ps x last) (missing_from (p.range.last + 1) ps x last rises.2)
             | inr upto ↦ below low p ps x last rises f upto (least_missing ps x last) (missing_from (p.range.last + 1) ps x last rises.2)
@@ -128,7 +128,7 @@ missing_from low (p ∷ ps) x last rises =
     no_piece low p ps x rises upto some =
         both_ways (is_some (piece_at ps x)) (ap is_some (piece_at-below (p.range.last + 1) ps x rises.2 (omega arith))) some
 
-    below : (low : ℕ) (p : Piece) (ps : List Piece) (x last : ℕ) → RisesFrom low (p ∷ ps) → holds p x ≡ false → x ≤ p.range.last → (o : Option ℕ)
+    below : (low : ℕ) (p : Piece) (ps : List Piece) (x last : ℕ) → RisesFrom low (p ∷ ps) → piece_holds p x ≡ false → x ≤ p.range.last → (o : Option ℕ)
         → IsLeastMissing ps x last o → IsLeastMissing (p ∷ ps) x last o
     below low p ps x last rises f upto None h = λ y k l.
         absurd (no_piece low p ps x rises upto (h x (omega arith) (omega arith)))

@@ -14,8 +14,8 @@ use Rattle.reg_entry.specs.Covers.{first_number}
 use Rattle.reg_entry.specs.Register.{Register, register_pieces, after_entry, card_of}
 use Rattle.reg_entry.specs.Sums.{held, allocated}
 use Rattle.reg_entry.specs.Next.{IsNextEntry}
-use Rattle.reg_entry.specs.Whole.{IsHolderNumber, IsCardIn, HaveCardsIn, IsWholeRegister}
-use Rattle.reg_laws.specs.Holdings.{gives_held, gives_allocated, held_by_card, allocated_by_card, held_by, allocated_by}
+use Rattle.reg_entry.specs.Whole.{IsKnownHolder, IsCardIn, HaveCardsIn, IsWholeRegister}
+use Rattle.reg_entry.specs.Holdings.{gives_held, gives_allocated, held_by_card, allocated_by_card, held_by, allocated_by}
 use Rattle.reg_laws.proofs.Sameness.{same_status-true, option_eq-true}
 use Rattle.reg_laws.proofs.Shares.{IsOfTaken, AllPieces, register_share, share_sum-filter, share_painted, share_unpainted, share_there, share_below_top, share_part, share_of_none}
 
@@ -119,7 +119,7 @@ is_another_s r holder c l h =
     false_from_ne_true (gives_held holder c) (λ e.
     let parts = and_parts (is_delegated c.status) (option_eq nat_eq c.holder (Some holder)) e in
     let is : c.holder ≡ Some holder = option_eq-true nat_eq (λ a b t. eqb-true a b t) c.holder (Some holder) parts.1 in
-    let there : holder < length r.holders = subst (IsHolderNumber r) is (h.holder parts.0) in
+    let there : holder < length r.holders = subst (IsKnownHolder r) is (h.holder parts.0) in
     omega arith)
 
 each_is_another_s : (r : Register) (holder : ℕ) (ps : List Piece) → length r.holders ≤ holder → HaveCardsIn r ps → AllPieces (λ p. gives_held holder p.card ≡ false) ps

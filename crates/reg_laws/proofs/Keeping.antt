@@ -8,14 +8,14 @@ use Rattle.num_range.specs.Range.{PlainRange, IsRange}
 use Rattle.reg_entry.specs.declared.card.Card.{Card}
 use Rattle.reg_entry.specs.declared.piece.Piece.{Piece}
 use Rattle.reg_entry.specs.Card.{is_available, is_delegated}
-use Rattle.reg_entry.specs.Pieces.{holds, piece_at, overlap, laid, RisesFrom, IsLeastTaken}
+use Rattle.reg_entry.specs.Pieces.{piece_holds, piece_at, overlap, laid, RisesFrom, IsLeastTaken}
 use Rattle.reg_entry.specs.Partition.{Partition, pieces_in, with_pieces, IsPartition}
 use Rattle.reg_entry.specs.Ranges.{same_space, lies_inside, range_holds}
 use Rattle.reg_entry.specs.Reshaping.{split_at_number, joined_at}
 use Rattle.reg_entry.specs.Covers.{number_before}
 use Rattle.reg_entry.proofs.Holding.{holds_true, holds_from, not_held_above, piece_at-first, piece_at-rest, piece_at-below}
 use Rattle.reg_entry.proofs.Overlaps.{overlap_is_least}
-use Rattle.reg_laws.specs.Reshaping.{CanJoinAt}
+use Rattle.reg_entry.specs.Reshaping.{CanJoinAt}
 use Rattle.reg_laws.proofs.Sameness.{same_space-true, same_space-refl}
 use Rattle.reg_laws.proofs.NextFacts.{IsInPiece, IsOnePiece, one_is_inside}
 use Rattle.reg_laws.proofs.Conserving.{not_available}
@@ -41,7 +41,7 @@ held_through : (low : ℕ) (ps : List Piece) (x m : ℕ) (p : Piece) → RisesFr
     → piece_at ps m ≡ Some p
 held_through low [] x m p rises e h k = absurd (none-some p e)
 held_through low (q ∷ qs) x m p rises e h k =
-    elim (cases_Bool (holds q x)) [
+    elim (cases_Bool (piece_holds q x)) [
       | inl t ↦
           let same : q ≡ p = same_Some q p (sym (piece_at-first q qs x t) ∙ e) in
           let inside = holds_true q x t in

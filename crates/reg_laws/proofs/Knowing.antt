@@ -15,8 +15,8 @@ use Rattle.reg_entry.specs.Register.{Register}
 use Rattle.reg_entry.specs.Covers.{card_for}
 use Rattle.reg_entry.specs.Decision.{first_of, early_rules, late_rules, handle_taken, unknown_holder, holders_full}
 use Rattle.reg_entry.specs.Next.{until_of, IsNextEntry}
-use Rattle.reg_entry.specs.Whole.{IsCardIn, IsHolderNumber}
-use Rattle.reg_laws.specs.Holdings.{gives_held}
+use Rattle.reg_entry.specs.Whole.{IsCardIn, IsKnownHolder}
+use Rattle.reg_entry.specs.Holdings.{gives_held}
 use Rattle.reg_laws.proofs.Accepting.{or_none, refuse_if_none}
 use Rattle.reg_laws.proofs.NextFacts.{next_facts, allowed_if}
 use Rattle.reg_laws.proofs.RequestKeeps.{card_by}
@@ -52,7 +52,7 @@ edited_holder_is_there r e holder next is =
     some_of (holder_number r.holders holder.handle)
     (allowed_if (is_some (holder_number r.holders holder.handle)) (UnknownHolder holder.handle) (or_none (unknown_holder r holder.handle) None early).0)
 
-holder_there : (r : Register) (holder : ℕ) (o : Option ℕ) → option_eq nat_eq o (Some holder) ≡ true → IsHolderNumber r o → holder < length r.holders
+holder_there : (r : Register) (holder : ℕ) (o : Option ℕ) → option_eq nat_eq o (Some holder) ≡ true → IsKnownHolder r o → holder < length r.holders
 holder_there r holder None e h = absurd h
 holder_there r holder (Some number) e h = let same : number ≡ holder = eqb-true number holder e in subst (λ n. n < length r.holders) same h
 

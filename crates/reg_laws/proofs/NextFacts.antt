@@ -13,7 +13,7 @@ use Rattle.reg_entry.specs.declared.refusal.Refusal.TheVariants.{NotOnePiece, Wr
 use Rattle.reg_entry.specs.Entry.{PlainEntry}
 use Rattle.reg_entry.specs.Card.{is_available, same_card}
 use Rattle.reg_entry.specs.Request.{is_range, is_request}
-use Rattle.reg_entry.specs.Pieces.{holds, piece_at, RisesFrom}
+use Rattle.reg_entry.specs.Pieces.{piece_holds, piece_at, RisesFrom}
 use Rattle.reg_entry.specs.Partition.{Partition}
 use Rattle.reg_entry.specs.Ranges.{same_range, same_space, lies_inside}
 use Rattle.reg_entry.specs.Register.{Register, piece_of}
@@ -138,22 +138,22 @@ free_piece low [] first last rises e = absurd (both_ways false refl e)
 free_piece low (p ∷ ps) first last rises e =
     elim (or_cases (has_free first last p) (list_any (has_free first last) ps) e) [
       | inl t ↦
-          let a = and_parts (is_available p.card.status && holds p first) (holds p last) t in
-          let b = and_parts (is_available p.card.status) (holds p first) a.0 in
+          let a = and_parts (is_available p.card.status && piece_holds p first) (piece_holds p last) t in
+          let b = and_parts (is_available p.card.status) (piece_holds p first) a.0 in
           record {
             piece = p;
-            holds_first = cond-true (holds p first) (Some p) (piece_at ps first) b.1;
+            holds_first = cond-true (piece_holds p first) (Some p) (piece_at ps first) b.1;
             reaches = (holds_true p last a.1).1;
             free = b.0;
           }
       | inr rest ↦
           let found = free_piece (p.range.last + 1) ps first last rises.2 rest in
-          let unheld : holds p first ≡ false = false_from_ne_true (holds p first) (λ t.
+          let unheld : piece_holds p first ≡ false = false_from_ne_true (piece_holds p first) (λ t.
           let inside = holds_true p first t in
           none-some found.piece (sym (piece_at-below (p.range.last + 1) ps first rises.2 (omega arith)) ∙ found.holds_first)) in
           record {
             piece = found.piece;
-            holds_first = cond-false (holds p first) (Some p) (piece_at ps first) unheld ∙ found.holds_first;
+            holds_first = cond-false (piece_holds p first) (Some p) (piece_at ps first) unheld ∙ found.holds_first;
             reaches = found.reaches;
             free = found.free;
           }

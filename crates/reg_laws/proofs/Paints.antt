@@ -22,7 +22,7 @@ use Rattle.reg_entry.specs.Holders.{holder_number}
 use Rattle.reg_entry.specs.Covers.{first_number, range_from, cover_for, card_for, holder_card, kept_card}
 use Rattle.reg_entry.specs.Decision.{first_of, outside_unicast, least_outside_unicast, already_pooled, outside_pool, number_outside_pool, begins_a_piece, not_one_piece, wrong_status, early_rules}
 use Rattle.reg_entry.specs.Next.{start_of, until_of, block_may_be, IsNextEntry}
-use Rattle.reg_laws.specs.Reshaping.{CanJoinAt}
+use Rattle.reg_entry.specs.Reshaping.{CanJoinAt}
 use Rattle.reg_laws.proofs.Accepting.{or_none, refuse_if_none, map_none, range_valid}
 use Rattle.reg_laws.proofs.NextFacts.{next_facts, one_is_inside, right_status, number_in_pool, on_the_piece, IsInPiece}
 use Rattle.reg_laws.proofs.Painted.{piece_is_of, met_first}

@@ -9,7 +9,7 @@ use Rattle.num_range.specs.Range.{PlainRange}
 use Rattle.reg_entry.specs.declared.card.Card.{Card}
 use Rattle.reg_entry.specs.declared.piece.Piece.{Piece}
 use Rattle.reg_entry.specs.Card.{is_available}
-use Rattle.reg_entry.specs.Pieces.{holds, piece_at, part_below, part_above, can_join, joined_pair, joined_after, joined, laid, RisesFrom}
+use Rattle.reg_entry.specs.Pieces.{piece_holds, piece_at, part_below, part_above, can_join, joined_pair, joined_after, joined, laid, RisesFrom}
 use Rattle.reg_entry.specs.Partition.{Partition, pieces_in, with_pieces, IsPartition}
 use Rattle.reg_entry.specs.Ranges.{same_space, lies_inside}
 use Rattle.reg_entry.specs.Reshaping.{holds_past_first, split_at_number, joined_at_after, joined_at}
@@ -18,10 +18,10 @@ use Rattle.reg_entry.specs.Covers.{first_number}
 use Rattle.reg_entry.proofs.Holding.{holds_true, holds_from, piece_at-first, piece_at-rest}
 use Rattle.reg_entry.proofs.Joining.{can_join_true}
 use Rattle.reg_entry.proofs.Laying.{kept_below, kept_above, painted_parts, painted_parts_rise}
-use Rattle.reg_laws.specs.Reshaping.{CanJoinAt}
+use Rattle.reg_entry.specs.Reshaping.{CanJoinAt}
 use Rattle.reg_laws.proofs.Sameness.{same_space-refl, same_space-true}
 use Rattle.reg_laws.proofs.Painted.{pieces_in-with, with_pieces_has, piece_is_of}
-use Rattle.reg_laws.proofs.Reshaped.{join_cases, join_first, join_rest, left_part, right_part}
+use Rattle.reg_entry.proofs.Reshaped.{join_cases, join_first, join_rest, left_part, right_part}
 
 -- ---- in a list
 
@@ -48,7 +48,7 @@ part_right first last c (p ∷ ps) qs h = inr (part_right first last c ps qs h)
 pub part_of_found : (ps : List Piece) (p : Piece) (first last : ℕ) → piece_at ps first ≡ Some p → last ≤ p.range.last → HasPart first last p.card ps
 part_of_found [] p first last e h = absurd (none-some p e)
 part_of_found (q ∷ qs) p first last e h =
-    elim (cases_Bool (holds q first)) [
+    elim (cases_Bool (piece_holds q first)) [
       | inl t ↦
           let same : q ≡ p = same_Some q p (sym (piece_at-first q qs first t) ∙ e) in
           let inside = holds_true q first t in
@@ -82,7 +82,7 @@ found_of_part low (p ∷ ps) first last c rises order (inr h) =
     let found = found_of_part (p.range.last + 1) ps first last c rises.2 order h in
     record {
       piece = found.piece;
-      holds_first = elim (cases_Bool (holds p first)) [
+      holds_first = elim (cases_Bool (piece_holds p first)) [
         | inl t ↦ absurd (let inside = holds_true p first t in omega arith)
         | inr f ↦ piece_at-rest p ps first f ∙ found.holds_first
       ];

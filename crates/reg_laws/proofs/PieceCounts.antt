@@ -9,7 +9,7 @@ use Rattle.num_range.specs.declared.space.Space.TheVariants.{Asn, Ipv4, Ipv6}
 use Rattle.num_range.specs.Range.{PlainRange}
 use Rattle.reg_entry.specs.declared.card.Card.{Card}
 use Rattle.reg_entry.specs.declared.piece.Piece.{Piece}
-use Rattle.reg_entry.specs.Pieces.{holds, piece_at, part_below, part_above, can_join, joined_pair, joined_after, joined, laid, RisesFrom}
+use Rattle.reg_entry.specs.Pieces.{piece_holds, piece_at, part_below, part_above, can_join, joined_pair, joined_after, joined, laid, RisesFrom}
 use Rattle.reg_entry.specs.Partition.{Partition, pieces_in, with_pieces, piece_count}
 use Rattle.reg_entry.specs.Reshaping.{joined_at_after, joined_at}
 use Rattle.reg_entry.proofs.Holding.{piece_at-first, piece_at-rest}
@@ -59,7 +59,7 @@ length_above r (p ∷ ps) =
 above_low : (low : ℕ) (ps : List Piece) (x : ℕ) (p : Piece) → RisesFrom low ps → piece_at ps x ≡ Some p → low ≤ p.range.first
 above_low low [] x p rises e = absurd (none-some p e)
 above_low low (q ∷ qs) x p rises e =
-    elim (cases_Bool (holds q x)) [
+    elim (cases_Bool (piece_holds q x)) [
       | inl t ↦ subst (λ y. low ≤ y.range.first) (same_Some q p (sym (piece_at-first q qs x t) ∙ e)) rises.0
       | inr f ↦
           let b : q.range.last + 1 ≤ p.range.first = above_low (q.range.last + 1) qs x p rises.2 (sym (piece_at-rest q qs x f) ∙ e) in
@@ -74,7 +74,7 @@ length_parts : (low : ℕ) (r : PlainRange) (ps : List Piece) (p : Piece) → Ri
     → length (flat_map (part_below r) ps) + suc (length (flat_map (part_above r) ps)) ≤ length ps
 length_parts low r [] p rises e first last order = absurd (none-some p e)
 length_parts low r (q ∷ qs) p rises e first last order =
-    elim (cases_Bool (holds q r.first)) [
+    elim (cases_Bool (piece_holds q r.first)) [
       | inl t ↦
           let same : q ≡ p = same_Some q p (sym (piece_at-first q qs r.first t) ∙ e) in
           let qf : q.range.first ≡ r.first = ap (λ x. x.range.first) same ∙ sym first in

@@ -29,7 +29,7 @@ use Rattle.reg_entry.specs.Register.{Register, register_pieces, piece_of, painte
 use Rattle.reg_entry.specs.Covers.{first_number, range_from, cover_for, card_for, holder_card, kept_card}
 use Rattle.reg_entry.specs.Decision.{first_of, outside_unicast, already_pooled, outside_pool, not_in_one_piece, not_one_piece, wrong_status, is_status, unknown_holder, no_block, register_full, straddled, early_rules, late_rules}
 use Rattle.reg_entry.specs.Next.{block_may_be, is_free_block, has_free, until_may_be}
-use Rattle.reg_entry.specs.Whole.{IsHolderNumber, IsCardIn}
+use Rattle.reg_entry.specs.Whole.{IsKnownHolder, IsCardIn}
 use Rattle.reg_laws.proofs.Sameness.{same_status-true}
 use Rattle.reg_laws.proofs.Accepting.{or_none, refuse_if_none, map_none, range_valid}
 use Rattle.reg_laws.proofs.NextFacts.{IsInPiece, IsOnePiece, one_is_inside, right_status, allowed_if, free_piece}
@@ -159,7 +159,7 @@ kept_in s status day until free h k = record {
   until = k;
 }
 
-held_in : (s : Register) (status : Status) (holder : Option ℕ) (day until : ℕ) → is_delegated status ≡ true → IsHolderNumber s holder
+held_in : (s : Register) (status : Status) (holder : Option ℕ) (day until : ℕ) → is_delegated status ≡ true → IsKnownHolder s holder
     → 1 ≤ day → day ≤ s.last_day → until ≤ last_date → IsCardIn s (holder_card status holder day until)
 held_in s status holder day until delegated is dated h k = record {
   holder = λ e. is;
@@ -170,11 +170,11 @@ held_in s status holder day until delegated is dated h k = record {
 }
 
 pub known_number : (r s : Register) (handle : List ℕ) → length r.holders ≤ length s.holders → unknown_holder r handle ≡ None
-    → IsHolderNumber s (holder_number r.holders handle)
+    → IsKnownHolder s (holder_number r.holders handle)
 known_number r s handle more e =
     by_number (holder_number r.holders handle) refl (allowed_if (is_some (holder_number r.holders handle)) (UnknownHolder handle) e)
   where
-    by_number : (o : Option ℕ) → holder_number r.holders handle ≡ o → is_some o ≡ true → IsHolderNumber s o
+    by_number : (o : Option ℕ) → holder_number r.holders handle ≡ o → is_some o ≡ true → IsKnownHolder s o
     by_number None e some = absurd (both_ways false refl some)
     by_number (Some number) e some = let n : number < length r.holders = number_is_there r.holders handle number e in omega arith
 

@@ -8,7 +8,7 @@ use Rattle.num_range.specs.declared.space.Space.TheVariants.{Asn, Ipv4, Ipv6}
 use Rattle.num_range.specs.Space.{width_of}
 use Rattle.num_range.specs.Range.{PlainRange}
 use Rattle.num_range.specs.Block.{block_size, block_of}
-use Rattle.num_range.specs.Cover.{lies_inside, has_some_of, blocks_inside, is_cut_length, longest_cut, reverse_cuts}
+use Rattle.num_range.specs.Cover.{is_part_of, has_some_of, blocks_inside, is_cut_length, longest_cut, reverse_cuts}
 
 -- ---- sizes
 
@@ -78,12 +78,12 @@ record IsPlace (space : Space) (left len start : ℕ) : Type 0 where
   aligned : start % block_size space len ≡ 0
 
 whole_rises : (asked : ℕ → Bool) (r : PlainRange) (left len start : ℕ) → IsPlace r.space left len start
-    → (asked len && lies_inside (block_of r.space start len) r) ≡ true
+    → (asked len && is_part_of (block_of r.space start len) r) ≡ true
     → RiseIn asked r start (start + block_size r.space len) (block_of r.space start len ∷ [])
 whole_rises asked r left len start place e =
     let size : ℕ = block_size r.space len in
     let pos : 0 < size = pow_pos (width_of r.space - len) in
-    let p = and_parts (asked len) (lies_inside (block_of r.space start len) r) e in
+    let p = and_parts (asked len) (is_part_of (block_of r.space start len) r) e in
     let q = and_parts (nat_le r.first start) (nat_le (start + (size - 1)) r.last) p.1 in
     let fits = place.fits in (
       record {
@@ -98,17 +98,17 @@ whole_rises asked r left len start place e =
     )
 
 -- the cases of the definition
-blocks_whole : (asked : ℕ → Bool) (r : PlainRange) (left len start : ℕ) → (asked len && lies_inside (block_of r.space start len) r) ≡ true
+blocks_whole : (asked : ℕ → Bool) (r : PlainRange) (left len start : ℕ) → (asked len && is_part_of (block_of r.space start len) r) ≡ true
     → blocks_inside asked r (suc left) len start ≡ block_of r.space start len ∷ []
 unfolding blocks_inside
 blocks_whole asked r left len start e = rw (e, blocks_inside)
 
-blocks_missed : (asked : ℕ → Bool) (r : PlainRange) (left len start : ℕ) → (asked len && lies_inside (block_of r.space start len) r) ≡ false
+blocks_missed : (asked : ℕ → Bool) (r : PlainRange) (left len start : ℕ) → (asked len && is_part_of (block_of r.space start len) r) ≡ false
     → has_some_of (block_of r.space start len) r ≡ false → blocks_inside asked r (suc left) len start ≡ []
 unfolding blocks_inside
 blocks_missed asked r left len start e missed = rw (e, missed, blocks_inside)
 
-blocks_met : (asked : ℕ → Bool) (r : PlainRange) (left len start : ℕ) → (asked len && lies_inside (block_of r.space start len) r) ≡ false
+blocks_met : (asked : ℕ → Bool) (r : PlainRange) (left len start : ℕ) → (asked len && is_part_of (block_of r.space start len) r) ≡ false
     → has_some_of (block_of r.space start len) r ≡ true
     → blocks_inside asked r (suc left) len start
     ≡ blocks_inside asked r left (len + 1) start ++ blocks_inside asked r left (len + 1) (start + block_size r.space (len + 1))
@@ -120,12 +120,12 @@ blocks_rise : (asked : ℕ → Bool) (r : PlainRange) (left len start : ℕ) →
 unfolding blocks_inside
 blocks_rise asked r zero len start place =
     let block : PlainRange = block_of r.space start len in
-    elim (cases_Bool (asked len && lies_inside block r)) [
+    elim (cases_Bool (asked len && is_part_of block r)) [
       | inl e ↦
-          subst (RiseIn asked r start (start + block_size r.space len)) (sym (cond-true (asked len && lies_inside block r) (block ∷ []) [] e))
+          subst (RiseIn asked r start (start + block_size r.space len)) (sym (cond-true (asked len && is_part_of block r) (block ∷ []) [] e))
           (whole_rises asked r zero len start place e)
       | inr e ↦
-          subst (RiseIn asked r start (start + block_size r.space len)) (sym (cond-false (asked len && lies_inside block r) (block ∷ []) [] e))
+          subst (RiseIn asked r start (start + block_size r.space len)) (sym (cond-false (asked len && is_part_of block r) (block ∷ []) [] e))
           (let h : start ≤ start + block_size r.space len = omega arith in h)
     ]
 blocks_rise asked r (suc left) len start place =
@@ -139,7 +139,7 @@ blocks_rise asked r (suc left) len start place =
     let lefts = blocks_rise asked r left (len + 1) start left_place in
     let rights = blocks_rise asked r left (len + 1) (start + half) right_place in
     let Rise : List PlainRange → Type 0 = RiseIn asked r start (start + block_size r.space len) in
-    elim (cases_Bool (asked len && lies_inside block r)) [
+    elim (cases_Bool (asked len && is_part_of block r)) [
       | inl e ↦ subst Rise (sym (blocks_whole asked r left len start e)) (whole_rises asked r (suc left) len start place e)
       | inr e ↦ elim (cases_Bool (has_some_of block r)) [
         | inl met ↦

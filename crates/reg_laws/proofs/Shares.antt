@@ -14,7 +14,7 @@ use Rattle.reg_entry.specs.declared.request.Request.{Request}
 use Rattle.reg_entry.specs.declared.request.Request.TheVariants.{Split, Join}
 use Rattle.reg_entry.specs.Entry.{PlainEntry}
 use Rattle.reg_entry.specs.Card.{is_available}
-use Rattle.reg_entry.specs.Pieces.{holds, piece_at, first_met, size_sum, part_below, part_above, can_join, joined_pair, joined_after, joined, laid, RisesFrom, IsPieceOf, AllPiecesOf, ArePieces, IsLeastTaken}
+use Rattle.reg_entry.specs.Pieces.{piece_holds, piece_at, first_met, size_sum, part_below, part_above, can_join, joined_pair, joined_after, joined, laid, RisesFrom, IsPieceOf, AllPiecesOf, ArePieces, IsLeastTaken}
 use Rattle.reg_entry.specs.Partition.{Partition, pieces_in, with_pieces, IsPartition}
 use Rattle.reg_entry.specs.Ranges.{same_space}
 use Rattle.reg_entry.specs.Reshaping.{holds_past_first, split_at_number, joined_at_after, joined_at}
@@ -27,11 +27,11 @@ use Rattle.reg_entry.proofs.Joining.{can_join_true}
 use Rattle.reg_entry.proofs.Laying.{kept_below, kept_above, painted_parts}
 use Rattle.reg_entry.proofs.Sizes.{size_sum-append, size_sum-kept, common_size, common_sum, common_sum_unmet, common_sum_above}
 use Rattle.reg_entry.proofs.Overlaps.{overlap_is_least}
-use Rattle.reg_laws.specs.Reshaping.{CanJoinAt}
+use Rattle.reg_entry.specs.Reshaping.{CanJoinAt}
 use Rattle.reg_laws.proofs.Sameness.{same_space-true}
 use Rattle.reg_laws.proofs.NextFacts.{next_facts, IsInPiece}
 use Rattle.reg_laws.proofs.Painted.{pieces_in-with, with_pieces_has, piece_is_of}
-use Rattle.reg_laws.proofs.Reshaped.{left_part, right_part, past_first, join_cases, join_first, join_rest}
+use Rattle.reg_entry.proofs.Reshaped.{left_part, right_part, past_first, join_cases, join_first, join_rest}
 use Rattle.reg_laws.proofs.Conserving.{can_be_joined}
 use Rattle.reg_laws.proofs.Paints.{next_painting}
 
@@ -152,7 +152,7 @@ common_inside : (low : ℕ) (test : Card → Bool) (r : PlainRange) (ps : List P
     → piece_at ps r.first ≡ Some p → p.range.first ≤ r.first → r.last ≤ p.range.last → common_shares test r ps ≡ share (test p.card) (size_of r)
 common_inside low test r [] p rises order e first last = absurd (none-some p e)
 common_inside low test r (q ∷ qs) p rises order e first last =
-    elim (cases_Bool (holds q r.first)) [
+    elim (cases_Bool (piece_holds q r.first)) [
       | inl t ↦
           let same : p ≡ q = sym (same_Some q p (sym (piece_at-first q qs r.first t) ∙ e)) in
           let l : r.last ≤ q.range.last = subst (λ x. r.last ≤ x.range.last) same last in
@@ -169,7 +169,7 @@ common_inside low test r (q ∷ qs) p rises order e first last =
               | inl before ↦
                   let order₁ : q.range.first ≤ q.range.last = rises.1 in
                   none-some p (sym (piece_at-below (q.range.last + 1) qs r.first rises.2 (omega arith)) ∙ rest)
-              | inr from ↦ both_ways (holds q r.first) f (holds_from q r.first from ge)
+              | inr from ↦ both_ways (piece_holds q r.first) f (holds_from q r.first from ge)
             ])
           ] in
           let none : common_size r q ≡ 0 = omega arith in

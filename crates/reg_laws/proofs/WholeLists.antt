@@ -13,13 +13,13 @@ use Rattle.reg_entry.specs.declared.request.Request.{Request}
 use Rattle.reg_entry.specs.declared.request.Request.TheVariants.{SubAssign, SubReturn, Return, Split, SetReverse, ClearReverse}
 use Rattle.reg_entry.specs.declared.sub_card.SubCard.{SubCard}
 use Rattle.reg_entry.specs.Card.{is_delegated}
-use Rattle.reg_entry.specs.Request.{is_range, are_servers, is_request}
+use Rattle.reg_entry.specs.Request.{is_range, is_server_count, is_request}
 use Rattle.reg_entry.specs.Holders.{holder_number}
 use Rattle.reg_entry.specs.Ranges.{same_range, lies_inside, ranges_meet, ranges_inside, value_of_range, first_meeting, without_range, AreApart}
 use Rattle.reg_entry.specs.Register.{Register, piece_of, with_sub, subs_after, reverses_after}
 use Rattle.reg_entry.specs.Covers.{first_number}
 use Rattle.reg_entry.specs.Decision.{first_of, outside_pool, not_in_one_piece, wrong_status, is_status, unknown_holder, first_common, meets_sub, meets_reverse, journal_full, subs_full, has_subs, straddling, straddled, of_asn, no_reverse_space, reverse_full, early_rules, late_rules}
-use Rattle.reg_entry.specs.Whole.{IsDayIn, piece_round, HasRange, IsSubIn, AreSubsIn, IsReverseIn, AreReversesIn, IsHolderNumber}
+use Rattle.reg_entry.specs.Whole.{IsDayIn, piece_round, HasRange, IsSubIn, AreSubsIn, IsReverseIn, AreReversesIn, IsKnownHolder}
 use Rattle.reg_laws.proofs.Sameness.{same_status-true}
 use Rattle.reg_laws.proofs.Accepting.{or_none, refuse_if_none, map_none, range_valid, first_in_pool}
 use Rattle.reg_laws.proofs.NextFacts.{some_piece, on_the_piece, allowed_if, right_status}
@@ -119,7 +119,7 @@ all_subs_moved r s request keeps more later untouched apart h =
     (all_and (λ x. IsRange x.0) (IsSubIn r) r.subs (ranges_of_apart r.subs apart) (subs_of_each r r.subs h))
 
 with_new_sub : (s : Register) (ss : List (PlainRange × SubCard)) (range : PlainRange) (day : ℕ) (o : Option ℕ) → AllOf (IsSubIn s) ss
-    → IsInside s range (λ status. status ≡ Allocated) → IsDayIn s day → IsHolderNumber s o → AllOf (IsSubIn s) (with_sub ss range day o)
+    → IsInside s range (λ status. status ≡ Allocated) → IsDayIn s day → IsKnownHolder s o → AllOf (IsSubIn s) (with_sub ss range day o)
 with_new_sub s ss range day None h inside dated is = h
 with_new_sub s ss range day (Some holder) h inside dated is =
     all_with (IsSubIn s) ss range (record { holder = holder; day = day }) h (record { inside = inside; holder = is; day = dated })
@@ -210,7 +210,7 @@ pub reverses_in : (r s : Register) (request : Request) (day : ℕ) (cover : Opti
     → first_of (early_rules r request) ≡ None → first_of (late_rules r request day cover card) ≡ None → Keeps r.pool s.pool (touches request)
     → AreApart r.reverses → AreReversesIn r r.reverses → AllOf (IsReverseIn s) (reverses_after request r.reverses)
 reverses_in r s (SetReverse range servers) day cover card valid early late keeps apart h =
-    let v = and_parts (is_range range) (are_servers servers) valid in
+    let v = and_parts (is_range range) (is_server_count servers) valid in
     let n = and_parts (nat_le 1 (length servers)) (nat_le (length servers) 4) v.1 in
     let a = or_none (outside_pool r range) _ early in
     let b = or_none (not_in_one_piece r range) _ a.1 in
@@ -237,7 +237,7 @@ reverses_in r s request day cover card valid early late keeps apart h =
 pub reverses_apart : (r : Register) (request : Request) → is_request request ≡ true → first_of (early_rules r request) ≡ None
     → AreApart r.reverses → AreApart (reverses_after request r.reverses)
 reverses_apart r (SetReverse range servers) valid early h =
-    let v = and_parts (is_range range) (are_servers servers) valid in
+    let v = and_parts (is_range range) (is_server_count servers) valid in
     let a = or_none (outside_pool r range) _ early in
     let b = or_none (not_in_one_piece r range) _ a.1 in
     let c = or_none (wrong_status r (first_number range) is_delegated) _ b.1 in
@@ -260,7 +260,7 @@ pub reverses_room : (r : Register) (request : Request) (day : ℕ) (cover : Opti
     → first_of (late_rules r request day cover card) ≡ None → AreApart r.reverses → length r.reverses ≤ r.rooms.reverse
     → length (reverses_after request r.reverses) ≤ r.rooms.reverse
 reverses_room r (SetReverse range servers) day cover card valid late apart h =
-    let v = and_parts (is_range range) (are_servers servers) valid in
+    let v = and_parts (is_range range) (is_server_count servers) valid in
     let a = or_none (no_reverse_space range) _ late in
     let b = or_none (journal_full r) _ a.1 in
     let c = or_none (reverse_full r range) None b.1 in

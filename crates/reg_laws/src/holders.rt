@@ -8,7 +8,7 @@ ghost use Rattle.reg_entry.specs.Holders.{holder_number};
 ghost use Rattle.reg_entry.specs.Register.{Register};
 ghost use Rattle.reg_entry.specs.Next.{IsNextEntry};
 ghost use Rattle.reg_entry.specs.Whole.{IsWholeRegister};
-ghost use Rattle.reg_laws.specs.Holdings.{gives_held};
+ghost use Rattle.reg_entry.specs.Holdings.{gives_held};
 
 /// A holder is added under a new handle and where there is room; the holder that is edited is there, and so is the one
 /// who is given numbers.

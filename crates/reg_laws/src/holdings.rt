@@ -9,7 +9,7 @@ ghost use Rattle.reg_entry.specs.Register.{Register, after_entry, card_of};
 ghost use Rattle.reg_entry.specs.Sums.{held, allocated};
 ghost use Rattle.reg_entry.specs.Next.{IsNextEntry};
 ghost use Rattle.reg_entry.specs.Whole.{IsWholeRegister};
-ghost use Rattle.reg_laws.specs.Holdings.{held_by, allocated_by, held_by_card, allocated_by_card};
+ghost use Rattle.reg_entry.specs.Holdings.{held_by, allocated_by, held_by_card, allocated_by_card};
 
 /// An entry that paints a card takes the numbers of its cover from the holder of the card that they had, and gives them
 /// to the holder of the new one; no other entry changes what a holder holds.

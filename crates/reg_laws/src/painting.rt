@@ -11,7 +11,7 @@ ghost use Rattle.reg_entry.specs.Pieces.{IsCard, IsInOnePieceOrNone, IsPoolRange
 ghost use Rattle.reg_entry.specs.Register.{Register, register_pieces, piece_of, reshaped};
 ghost use Rattle.reg_entry.specs.Next.{IsNextEntry};
 ghost use Rattle.reg_entry.specs.Whole.{IsWholeRegister};
-ghost use Rattle.reg_laws.specs.Reshaping.{CanJoinAt};
+ghost use Rattle.reg_entry.specs.Reshaping.{CanJoinAt};
 
 /// An entry that paints paints inside one piece or where there is none, in what may be pooled, and does nothing else to
 /// the pieces; an available card is the plain one.

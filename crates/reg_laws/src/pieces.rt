@@ -9,27 +9,7 @@ ghost use Rattle.reg_entry.specs.Next.{is_free_block};
 ghost use Rattle.reg_laws.specs.Missing.{IsLeastMissing};
 ghost use Rattle.reg_entry.specs.Pieces.{card_at, size_sum, ArePieces};
 ghost use Rattle.reg_entry.specs.Reshaping.{split_at_number, joined_at};
-ghost use Rattle.reg_laws.specs.Reshaping.{IsFixedAt, CanJoinAt};
-
-/// Splitting a piece changes the card of no number, and not how many there are.
-pub fn splitting_keeps_cards()
-    ensures cards { (space : Space) (ps : List Piece) (at x : ℕ) → ArePieces space ps
-        → card_at (split_at_number ps at) x ≡ card_at ps x }
-    ensures sizes { (space : Space) (ps : List Piece) (at : ℕ) → ArePieces space ps
-        → size_sum (split_at_number ps at) ≡ size_sum ps }
-    ensures pieces { (space : Space) (ps : List Piece) (at : ℕ) → ArePieces space ps → IsFixedAt ps at
-        → ArePieces space (split_at_number ps at) }
-{}
-
-/// Joining two pieces of one card changes the card of no number, and not how many there are.
-pub fn joining_keeps_cards()
-    ensures cards { (space : Space) (ps : List Piece) (at x : ℕ) → ArePieces space ps → CanJoinAt ps at
-        → card_at (joined_at ps at) x ≡ card_at ps x }
-    ensures sizes { (space : Space) (ps : List Piece) (at : ℕ) → ArePieces space ps → CanJoinAt ps at
-        → size_sum (joined_at ps at) ≡ size_sum ps }
-    ensures pieces { (space : Space) (ps : List Piece) (at : ℕ) → ArePieces space ps → CanJoinAt ps at
-        → ArePieces space (joined_at ps at) }
-{}
+ghost use Rattle.reg_entry.specs.Reshaping.{IsFixedAt, CanJoinAt};
 
 /// A block passes the test for what a Delegate may take just where it is aligned, within its space, and each of its
 /// numbers is available.

@@ -12,7 +12,7 @@ use Rattle.reg_entry.specs.Decision.{decision}
 use Rattle.reg_entry.specs.Entry.{PlainEntry}
 use Rattle.reg_entry.specs.Holders.{handle_of}
 use Rattle.reg_entry.specs.Policy.{PlainPolicy}
-use Rattle.reg_entry.specs.Register.{Register, empty_register, after_entry, piece_of}
+use Rattle.reg_entry.specs.Register.{Register, register_after, after_entry, piece_of}
 use Rattle.board.specs.Kinds.{is_of_pieces_or_holders}
 use Rattle.quarantine.specs.Due.{due_pieces}
 use Rattle.desk_lang.specs.declared.line.Line.{Line}
@@ -35,9 +35,13 @@ pub record PlainSession : Type 0 where
   pub day : ℕ
   pub who : List ℕ
 
--- the session over the empty register that begins on a clock's day
+-- the session over the register of a list of entries that begins on a clock's day
+abbrev pub session_over : List PlainEntry → PlainPolicy → ℕ → PlainSession
+session_over es policy day = record { register = register_after rooms es; policy = policy; day = clamped_day day; who = codes "local" }
+
+-- the session over the empty register
 abbrev pub new_session : PlainPolicy → ℕ → PlainSession
-new_session policy day = record { register = empty_register rooms; policy = policy; day = clamped_day day; who = codes "local" }
+new_session policy day = session_over [] policy day
 
 abbrev pub with_register : PlainSession → Register → PlainSession
 with_register s register = record { register = register; policy = s.policy; day = s.day; who = s.who }
@@ -143,3 +147,11 @@ entries_of_line s line = []
 abbrev pub accepted_entries : PlainSession → List (List ℕ) → List PlainEntry
 accepted_entries s [] = []
 accepted_entries s (line ∷ more) = entries_of_line s (line_of line) ++ accepted_entries (answered s line).session more
+
+-- a list of entries, and then those that lines become over its register
+abbrev pub entries_after : List PlainEntry → PlainPolicy → ℕ → List (List ℕ) → List PlainEntry
+entries_after es policy day lines = es ++ accepted_entries (session_over es policy day) lines
+
+-- the register that lines make of that of a list of entries
+abbrev pub register_over : List PlainEntry → PlainPolicy → ℕ → List (List ℕ) → Register
+register_over es policy day lines = (session_after (session_over es policy day) lines).register

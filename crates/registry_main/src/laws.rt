@@ -1,60 +1,63 @@
-//! What holds of every register that a script builds, each proved as the contract of a function that does nothing.
+//! What holds of every register that a script builds, whatever legal entries were there before it, each proved as the
+//! contract of a function that does nothing.
 ghost use Rattle.std.specs.Prelude.{◌≡◌, ℕ, ◌<◌, List};
 ghost use Rattle.num_range.specs.declared.space.Space.{Space};
-ghost use Rattle.num_range.specs.Number.{PlainNumber};
 ghost use Rattle.num_range.specs.Range.{PlainRange, IsRange};
 ghost use Rattle.reg_entry.specs.Blocks.{least_block, IsLeastBlock};
-ghost use Rattle.reg_entry.specs.Entries.{last_card, received_size};
+ghost use Rattle.reg_entry.specs.Entry.{PlainEntry};
 ghost use Rattle.reg_entry.specs.Next.{IsLegal};
-ghost use Rattle.reg_entry.specs.Pieces.{overlap, size_sum, IsLeastTaken};
+ghost use Rattle.reg_entry.specs.Pieces.{overlap, IsLeastTaken};
 ghost use Rattle.reg_entry.specs.Policy.{PlainPolicy, IsPolicy};
-ghost use Rattle.reg_entry.specs.Register.{register_after, register_pieces, card_of};
-ghost use Rattle.registry_main.specs.Session.{rooms, new_session, session_after, accepted_entries};
+ghost use Rattle.reg_entry.specs.Register.{register_after, register_pieces};
+ghost use Rattle.board.specs.Conserved.{IsConservedBy};
+ghost use Rattle.registry_main.specs.Session.{rooms, entries_after, register_over};
 
 use desk_lang::laws::lines_are_valid;
 use reg_entry::laws::{block_is_least, overlap_is_least};
-use reg_laws::conservation::legal_entries_conserve;
 use reg_laws::next::accepted_may_come_next;
+use reg_laws::reached::{legal_entries_go_on, reached_registers_conserve, reached_registers_count};
 use reg_laws::whole::{legal_entries_are_whole, next_entry_keeps_whole};
 
-/// The entries that a script's requests become are a legal list, and the script's register is theirs.
+/// The entries that a script's requests become go on legally with a legal list, and the script's register is that of the
+/// whole list.
 pub fn accepted_entries_are_legal()
-    ensures legal { (p : PlainPolicy) (day : ℕ) (script : List (List ℕ)) → IsPolicy p
-        → IsLegal rooms (accepted_entries (new_session p day) script) }
-    ensures register { (p : PlainPolicy) (day : ℕ) (script : List (List ℕ)) →
-        (session_after (new_session p day) script).register ≡ register_after rooms (accepted_entries (new_session p day) script) }
+    ensures legal { (es : List PlainEntry) (p : PlainPolicy) (day : ℕ) (lines : List (List ℕ)) → IsPolicy p → IsLegal rooms es
+        → IsLegal rooms (entries_after es p day lines) }
+    ensures register { (es : List PlainEntry) (p : PlainPolicy) (day : ℕ) (lines : List (List ℕ))
+        → register_over es p day lines ≡ register_after rooms (entries_after es p day lines) }
 {
     lines_are_valid();
     accepted_may_come_next();
     legal_entries_are_whole();
+    legal_entries_go_on();
     next_entry_keeps_whole();
 }
 
-/// In a script's register each number has the card of the last entry that painted it, and none where none did; and the
-/// pieces of each space have just as many numbers as the script received.
+/// A script's register loses no number and holds none twice.
 pub fn scripts_conserve()
-    ensures cards { (p : PlainPolicy) (day : ℕ) (script : List (List ℕ)) (n : PlainNumber) → IsPolicy p
-        → card_of (session_after (new_session p day) script).register.pool n ≡ last_card (accepted_entries (new_session p day) script) n }
-    ensures sizes { (p : PlainPolicy) (day : ℕ) (script : List (List ℕ)) (space : Space) → IsPolicy p
-        → size_sum (register_pieces (session_after (new_session p day) script).register space)
-        ≡ received_size (accepted_entries (new_session p day) script) space }
+    ensures { (es : List PlainEntry) (p : PlainPolicy) (day : ℕ) (lines : List (List ℕ)) → IsPolicy p → IsLegal rooms es
+        → IsConservedBy (register_over es p day lines) (entries_after es p day lines) }
 {
     accepted_entries_are_legal();
-    legal_entries_conserve();
+    legal_entries_go_on();
+    reached_registers_conserve();
+    reached_registers_count();
 }
 
 /// In a script's register the block of a delegation is the least free one, and the number of an overlap the least that
 /// is taken.
 pub fn answers_are_least()
-    ensures blocks { (p : PlainPolicy) (day : ℕ) (script : List (List ℕ)) (space : Space) (size : ℕ) → IsPolicy p → 0 < size
-        → IsLeastBlock (register_pieces (session_after (new_session p day) script).register space) space size
-        (least_block (register_pieces (session_after (new_session p day) script).register space) space size) }
-    ensures overlaps { (p : PlainPolicy) (day : ℕ) (script : List (List ℕ)) (range : PlainRange) → IsPolicy p → IsRange range
-        → IsLeastTaken (register_pieces (session_after (new_session p day) script).register range.space) range
-        (overlap (register_pieces (session_after (new_session p day) script).register range.space) range) }
+    ensures blocks { (es : List PlainEntry) (p : PlainPolicy) (day : ℕ) (lines : List (List ℕ)) (space : Space) (size : ℕ)
+        → IsPolicy p → IsLegal rooms es → 0 < size
+        → IsLeastBlock (register_pieces (register_over es p day lines) space) space size
+        (least_block (register_pieces (register_over es p day lines) space) space size) }
+    ensures overlaps { (es : List PlainEntry) (p : PlainPolicy) (day : ℕ) (lines : List (List ℕ)) (range : PlainRange)
+        → IsPolicy p → IsLegal rooms es → IsRange range
+        → IsLeastTaken (register_pieces (register_over es p day lines) range.space) range
+        (overlap (register_pieces (register_over es p day lines) range.space) range) }
 {
     accepted_entries_are_legal();
-    legal_entries_conserve();
+    legal_entries_are_whole();
     block_is_least();
     overlap_is_least();
 }

@@ -1,19 +1,19 @@
 //! The program, over whatever it reads from and writes to.
 ghost use Rattle.std.specs.Prelude.{◌≡◌, ◌≢◌, ◌≤◌, ◌<◌, ◌+◌, ◌↔◌, ◌⊎◌, ℕ, List, [], ◌∷◌, Ok, Err, IsTrue, map, codes};
 ghost use Rattle.std.specs.String.{string_bytes};
-ghost use Rattle.num_range.specs.Number.{PlainNumber};
 ghost use Rattle.num_range.specs.Range.{PlainRange, IsRange};
 ghost use Rattle.num_range.specs.declared.space.Space.{Space};
 ghost use Rattle.reg_entry.specs.Blocks.{least_block, IsLeastBlock};
-ghost use Rattle.reg_entry.specs.Entries.{last_card, received_size};
+ghost use Rattle.reg_entry.specs.Entry.{PlainEntry};
 ghost use Rattle.reg_entry.specs.Next.{IsLegal};
-ghost use Rattle.reg_entry.specs.Pieces.{overlap, size_sum, IsLeastTaken};
+ghost use Rattle.reg_entry.specs.Pieces.{overlap, IsLeastTaken};
 ghost use Rattle.reg_entry.specs.Policy.{PlainPolicy, IsPolicy};
-ghost use Rattle.reg_entry.specs.Register.{register_after, register_pieces, card_of};
+ghost use Rattle.reg_entry.specs.Register.{register_after, register_pieces};
 ghost use Rattle.policy_table.specs.declared.fault.PolicyFault.{PolicyFault};
 ghost use Rattle.policy_table.specs.declared.fault.PolicyFault.TheVariants as faults;
 ghost use Rattle.link_face.specs.Faults.{HasRisen};
-ghost use Rattle.registry_main.specs.Session.{rooms, new_session, session_after, accepted_entries};
+ghost use Rattle.board.specs.Conserved.{IsConservedBy};
+ghost use Rattle.registry_main.specs.Session.{rooms, entries_after, register_over};
 ghost use Rattle.registry_main.specs.Batch.{IsAnswered};
 ghost use Rattle.registry_main.specs.PolicyBytes.{policy_front, IsSaid, IfSaid};
 ghost use Rattle.registry_main.specs.declared.exit.Exit.TheVariants.{Done, Usage, PolicyRefused, ReadFault, WriteFault, NoMemory};
@@ -95,28 +95,28 @@ pub fn run<R: AllocGlobal, S: Source, T: Source, K: Sink, C: Clock>(
         HasRisen (S.faults policy.old) (S.faults policy.new) ⊎ HasRisen (T.faults script.old) (T.faults script.new) }
     ensures write_fault { result ≡ WriteFault → HasRisen (K.faults out.old) (K.faults out.new) }
 
-    // Under each policy the entries that a script's requests become are a legal list, and its register is theirs.
-    ensures legal { (p : PlainPolicy) (day : ℕ) (lines : List (List ℕ)) → IsPolicy p
-        → IsLegal rooms (accepted_entries (new_session p day) lines) }
-    ensures register { (p : PlainPolicy) (day : ℕ) (lines : List (List ℕ)) →
-        (session_after (new_session p day) lines).register ≡ register_after rooms (accepted_entries (new_session p day) lines) }
+    // Whatever legal entries were there, under each policy the entries that a script's requests become go on with them
+    // legally, and its register is that of all of them.
+    ensures legal { (es : List PlainEntry) (p : PlainPolicy) (day : ℕ) (lines : List (List ℕ)) → IsPolicy p → IsLegal rooms es
+        → IsLegal rooms (entries_after es p day lines) }
+    ensures register { (es : List PlainEntry) (p : PlainPolicy) (day : ℕ) (lines : List (List ℕ))
+        → register_over es p day lines ≡ register_after rooms (entries_after es p day lines) }
 
-    // So no number is lost, doubled or invented: each has the card of the last entry that painted it, and none where none
-    // did; and there are just as many as were received.
-    ensures conserved { (p : PlainPolicy) (day : ℕ) (lines : List (List ℕ)) (n : PlainNumber) → IsPolicy p
-        → card_of (session_after (new_session p day) lines).register.pool n ≡ last_card (accepted_entries (new_session p day) lines) n }
-    ensures sizes { (p : PlainPolicy) (day : ℕ) (lines : List (List ℕ)) (space : Space) → IsPolicy p
-        → size_sum (register_pieces (session_after (new_session p day) lines).register space)
-        ≡ received_size (accepted_entries (new_session p day) lines) space }
+    // So no number is lost, doubled or invented: each lies in one piece, with the card of the last entry that painted it,
+    // just where it was received, and in none elsewhere.
+    ensures conserved { (es : List PlainEntry) (p : PlainPolicy) (day : ℕ) (lines : List (List ℕ)) → IsPolicy p → IsLegal rooms es
+        → IsConservedBy (register_over es p day lines) (entries_after es p day lines) }
 
     // A delegation takes the least free block, aligned and all of it available, and an overlap is told by the least
     // number that is taken.
-    ensures least { (p : PlainPolicy) (day : ℕ) (lines : List (List ℕ)) (space : Space) (size : ℕ) → IsPolicy p → 0 < size
-        → IsLeastBlock (register_pieces (session_after (new_session p day) lines).register space) space size
-        (least_block (register_pieces (session_after (new_session p day) lines).register space) space size) }
-    ensures taken { (p : PlainPolicy) (day : ℕ) (lines : List (List ℕ)) (range : PlainRange) → IsPolicy p → IsRange range
-        → IsLeastTaken (register_pieces (session_after (new_session p day) lines).register range.space) range
-        (overlap (register_pieces (session_after (new_session p day) lines).register range.space) range) }
+    ensures least { (es : List PlainEntry) (p : PlainPolicy) (day : ℕ) (lines : List (List ℕ)) (space : Space) (size : ℕ)
+        → IsPolicy p → IsLegal rooms es → 0 < size
+        → IsLeastBlock (register_pieces (register_over es p day lines) space) space size
+        (least_block (register_pieces (register_over es p day lines) space) space size) }
+    ensures taken { (es : List PlainEntry) (p : PlainPolicy) (day : ℕ) (lines : List (List ℕ)) (range : PlainRange)
+        → IsPolicy p → IsLegal rooms es → IsRange range
+        → IsLeastTaken (register_pieces (register_over es p day lines) range.space) range
+        (overlap (register_pieces (register_over es p day lines) range.space) range) }
 {
     // Laws, from `legal` on.
     accepted_entries_are_legal();

@@ -45,7 +45,7 @@ impl Model for Session {
 
     ghost Value = { PlainSession };
 
-    ghost view = { λ s. record { register = s.board; policy = s.policy; day = s.day; who = s.who } };
+    ghost view = { λ s. record { register = s.board.register; policy = s.policy; day = s.day; who = s.who } };
 }
 
 /// The answer of a line that isn't decided.
@@ -88,7 +88,7 @@ impl Session {
         ensures session { self.new ≡ after_reply self.old result }
         ensures date { ReplyHasDate result }
     {
-        let _whole = self.board.entries();
+        self.board.is_whole();
         if !is_of_pieces_or_holders(request) {
             return malformed(1);
         }
@@ -105,7 +105,7 @@ impl Session {
         ensures dates { IfSome result (λ p. HasDates (Shown p None)) }
         ensures holder { IfSome result (λ p. IfSome p.card.holder (λ number. number < length self.now.register.holders)) }
     {
-        let _whole = self.board.entries();
+        self.board.is_whole();
         self.board.pieces().piece_at(*n)
     }
 

@@ -5,7 +5,7 @@ use Rattle.num_range.specs.declared.space.Space.TheVariants.{Asn, Ipv4, Ipv6}
 use Rattle.num_range.specs.Space.{top_of}
 use Rattle.num_range.specs.Range.{size_of}
 use Rattle.reg_entry.specs.declared.piece.Piece.{Piece}
-use Rattle.board.specs.Found.{IsFoundIn}
+use Rattle.board.specs.FoundPiece.{IsFoundIn}
 
 pub size_bound : (space : Space) (x : ℕ) (p : Piece) → IsFoundIn space 0 x p → size_of p.range ≤ 2 ^ 126
 size_bound Asn x p found = let within : p.range.last ≤ top_of Asn = found.of_space.within in omega arith

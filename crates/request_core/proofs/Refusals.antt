@@ -8,7 +8,6 @@ use Rattle.reg_entry.specs.declared.request.Request.{Request}
 use Rattle.reg_entry.specs.Entry.{PlainEntry}
 use Rattle.reg_entry.specs.Policy.{PlainPolicy}
 use Rattle.reg_entry.specs.Register.{Register}
-use Rattle.reg_entry.specs.Next.{IsNextEntry}
 use Rattle.reg_entry.specs.Decision.{first_of, early_rules, policy_rules, late_refusal, unknown_hostmaster, refusal_of, reply_of, proposed_entry, decision, IfAccepted}
 
 or_first : (a b c d : Option Refusal) (refusal : Refusal) → option_or a (option_or b c) ≡ Some refusal
@@ -59,7 +58,6 @@ accepted_is r p day who request e early same late =
     (late_is r p day who request e early same ∙ late)
     ∙ ap (λ (d : PlainEntry). Accepted d) (sym same)
 
--- what the decision accepts, said of the entry
-pub next_is : (r : Register) (p : PlainPolicy) (day : ℕ) (who : List ℕ) (request : Request) (e : PlainEntry)
-    → IfAccepted (decision r p day who request) (IsNextEntry r) → decision r p day who request ≡ Accepted e → IsNextEntry r e
-next_is r p day who request e next is = subst (λ (reply : Reply). IfAccepted reply (IsNextEntry r)) is next
+-- what holds of whatever the decision accepts, said of the entry
+pub of_accepted : (reply : Reply) (e : PlainEntry) (P : PlainEntry → Type 0) → IfAccepted reply P → reply ≡ Accepted e → P e
+of_accepted reply e P accepted is = subst (λ (x : Reply). IfAccepted x P) is accepted

@@ -5,6 +5,7 @@ ghost use Rattle.reg_entry.specs.declared.request.Request.TheVariants.{Split};
 ghost use Rattle.reg_entry.specs.declared.entry.Reply.TheVariants.{Accepted};
 ghost use Rattle.reg_entry.specs.Decision.{decision, first_of, unknown_hostmaster, early_rules, policy_rules, late_refusal, refusal_of, proposed_entry, IfAccepted};
 ghost use Rattle.reg_entry.specs.Next.{IsNextEntry};
+ghost use Rattle.reg_entry.specs.Covers.{IsLeastCover};
 ghost use Rattle.board.specs.Kinds.{is_of_pieces_or_holders};
 ghost use Rattle.reg_entry.specs.Request.{IsSizedRequest};
 
@@ -19,7 +20,7 @@ use reg_laws::next::accepted_may_come_next;
 fn first_refusal(board: &Board, policy: &Policy, who: &Name, request: &Request) -> Option<Refusal>
     requires kind { is_of_pieces_or_holders request.now ≡ true }
     ensures refusal { result ≡ option_or (unknown_hostmaster policy.now who.now)
-        (option_or (first_of (early_rules board.now request.now)) (first_of (policy_rules board.now policy.now request.now))) }
+        (option_or (first_of (early_rules board.now.register request.now)) (first_of (policy_rules board.now.register policy.now request.now))) }
     ensures sized { IfNone result (IsSizedRequest request.now) }
 {
     if !policy.knows(who) {
@@ -36,29 +37,31 @@ fn first_refusal(board: &Board, policy: &Policy, who: &Name, request: &Request) 
 fn late_refusal(board: &Board, e: &Entry) -> Option<Refusal>
     requires kind { is_of_pieces_or_holders e.now.request ≡ true }
     requires split { (at : PlainNumber) → e.now.request ≡ Split at → e.now.card ≡ None }
-    ensures { result ≡ late_refusal board.now e.now }
+    ensures { result ≡ late_refusal board.now.register e.now }
 {
     board.late_refusal(&e.request, e.day, &e.cover, &e.card)
 }
 
-/// Decides a request under a policy, on a day of the clock.
+/// Decides a request under a policy, on a day of the clock. What is accepted may come next; where it delegates numbers it
+/// covers the least free block of their size.
 #[tactic(auto, using(crate::proofs::Refusals::refused_before))]
 pub fn decide(board: &Board, policy: &Policy, day: u32, who: &Name, request: &Request) -> Reply
     requires kind { is_of_pieces_or_holders request.now ≡ true }
-    ensures decision { result ≡ decision board.now policy.now day who.now request.now }
-    ensures accepted { refusal_of board.now policy.now day who.now request.now ≡ None
-        → result ≡ Accepted (proposed_entry board.now policy.now day who.now request.now) }
-    ensures next { IfAccepted result (IsNextEntry board.now) }
+    ensures decision { result ≡ decision board.now.register policy.now day who.now request.now }
+    ensures accepted { refusal_of board.now.register policy.now day who.now request.now ≡ None
+        → result ≡ Accepted (proposed_entry board.now.register policy.now day who.now request.now) }
+    ensures next { IfAccepted result (IsNextEntry board.now.register) }
+    ensures least { IfAccepted result (λ e. IsLeastCover board.now.register e.request e.cover) }
     ensures same_kind { IfAccepted result (λ e. is_of_pieces_or_holders e.request ≡ true) }
 {
     if let Some(refusal) = first_refusal(board, policy, who, request) {
         return Reply::Refused(refusal);
     }
     let entry = proposed_entry(board, policy, day, who, request);
-    // A law, for `next`, and what it asks of the board, the policy and the request.
+    // A law, for `next` and `least`, and what it asks of the board, the policy and the request.
     accepted_may_come_next();
-    let _whole = board.entries();
-    let _valid = policy.registry();
+    board.is_whole();
+    policy.is_well_formed();
     request.has_ranges();
     match late_refusal(board, &entry) {
         Some(refusal) => Reply::Refused(refusal),

@@ -20,16 +20,6 @@ fn gap(n: u128, size: u128) -> u128
     if past == 0 { 0 } else { size - past }
 }
 
-/// A block of addresses starts at a multiple of its size (RFC 4632 3.1); AS numbers start anywhere.
-fn alignment(space: Space, size: u128) -> u128
-    ensures { result ≡ alignment space size }
-{
-    match space {
-        Space::Asn => 1,
-        Space::Ipv4 | Space::Ipv6 => size,
-    }
-}
-
 /// The first aligned start in an available piece that has room for the block behind it.
 fn start_within(piece: &Piece, space: Space, size: u128) -> Option<u128>
     requires least { 0 < size }
@@ -45,7 +35,7 @@ fn start_within(piece: &Piece, space: Space, size: u128) -> Option<u128>
     if behind < size - 1 {
         return None;
     }
-    let gap = gap(first, alignment(space, size));
+    let gap = gap(first, space.alignment(size));
     if behind < gap + (size - 1) {
         return None;
     }

@@ -8,7 +8,7 @@ ghost use Rattle.reg_entry.specs.Register.{piece_of};
 ghost use Rattle.reg_entry.specs.Request.{has_size, status_of, IsSizedRequest};
 ghost use Rattle.reg_entry.specs.Decision.{first_of, on_piece, amount_out_of_policy, kind_left_out, over_cap, under_used, delegate_rules, transferred_size, transfer_rules, policy_rules};
 
-use board::{Board, amount_size, first_number, refuse_if};
+use board::Board;
 use num_range::{Range, Space};
 use policy_table::Policy;
 use reg_entry::{Delegation, Handle, Holder, Kind, Piece, Refusal, Request, Row, Status};
@@ -19,10 +19,7 @@ fn amount_out_of_policy(row: &Row, amount: u32) -> Option<Refusal>
     ensures within { IfNone result ((row.now.least ≤ amount) × (amount ≤ row.now.most)) }
 {
     let (least, most) = (row.least, row.most);
-    refuse_if(
-        amount < least || most < amount,
-        Refusal::LengthOutOfPolicy { least, most },
-    )
+    Refusal::LengthOutOfPolicy { least, most }.when(amount < least || most < amount)
 }
 
 /// Whether the row lists holders of this kind.
@@ -38,7 +35,7 @@ fn lists_kind(row: &Row, kind: Kind) -> bool
 /// The holder with this handle.
 #[tactic(auto, using(crate::proofs::Named::number_within, crate::proofs::Named::holder_found, crate::proofs::Named::no_holder))]
 fn holder_named(board: &Board, handle: &Handle) -> Option<Holder>
-    ensures { result ≡ holder_named board.now.holders handle.now }
+    ensures { result ≡ holder_named board.now.register.holders handle.now }
 {
     let number = board.holders().by_handle(handle)?;
     let (holder, _) = board.holders().holder(number);
@@ -46,24 +43,24 @@ fn holder_named(board: &Board, handle: &Handle) -> Option<Holder>
 }
 
 fn kind_left_out(board: &Board, row: &Row, handle: &Handle) -> Option<Refusal>
-    ensures { result ≡ kind_left_out board.now row.now handle.now }
+    ensures { result ≡ kind_left_out board.now.register row.now handle.now }
 {
     let kind = holder_named(board, handle)?.kind;
-    refuse_if(!lists_kind(row, kind), Refusal::HolderKind { kind })
+    Refusal::HolderKind { kind }.when(!lists_kind(row, kind))
 }
 
 /// The holder would hold too many numbers of the space, with so many more.
 fn over_cap(board: &Board, row: &Row, space: Space, handle: &Handle, more: u128) -> Option<Refusal>
     requires { more ≤ 2 ^ 126 }
-    ensures { result ≡ over_cap board.now row.now space handle.now more }
+    ensures { result ≡ over_cap board.now.register row.now space handle.now more }
 {
     // A law: the sum is a number of the type.
     holdings_are_bounded();
-    let _whole = board.entries();
+    board.is_whole();
     let number = board.holders().by_handle(handle)?;
     let held = board.held(number, space) + more;
     let cap = row.cap;
-    refuse_if(cap < held, Refusal::OverCap { held, cap })
+    Refusal::OverCap { held, cap }.when(cap < held)
 }
 
 /// So many hundredths of an amount, rounded down, or the greatest number of the type where there would be more.
@@ -78,17 +75,14 @@ fn hundredths(amount: u128, percent: u32) -> u128
 
 /// Too few of the holder's allocated numbers are sub-assigned.
 fn under_used(board: &Board, row: &Row, space: Space, handle: &Handle) -> Option<Refusal>
-    ensures { result ≡ under_used board.now row.now space handle.now }
+    ensures { result ≡ under_used board.now.register row.now space handle.now }
 {
     // There are no sub-assignments yet.
     board.has_no_subs();
     let used = 0;
     let number = board.holders().by_handle(handle)?;
     let held = board.allocated(number, space);
-    refuse_if(
-        0 < held && used < hundredths(held, row.percent),
-        Refusal::UnderUsed { used, held },
-    )
+    Refusal::UnderUsed { used, held }.when(0 < held && used < hundredths(held, row.percent))
 }
 
 /// What is against a delegation by the row of its space and status.
@@ -101,17 +95,19 @@ fn row_refusal(
     handle: &Handle,
 ) -> Option<Refusal>
     requires { IsRowOf space row.now }
-    ensures refusal { result ≡ first_of (delegate_rules board.now row.now space amount (status_of status) handle.now) }
+    ensures refusal { result ≡ first_of (delegate_rules board.now.register row.now space amount (status_of status) handle.now) }
     ensures sized { IfNone result (has_size space amount ≡ true) }
 {
     let amount_refusal = amount_out_of_policy(row, amount);
     if amount_refusal.is_some() {
         return amount_refusal;
     }
-    let size = amount_size(space, amount);
-    let refusal = kind_left_out(board, row, handle).or(over_cap(board, row, space, handle, size));
+    let size = space.amount_size(amount);
+    let refusal = kind_left_out(board, row, handle).or_else(|| over_cap(
+        board, row, space, handle, size,
+    ));
     match status {
-        Delegation::Allocate => refusal.or(under_used(board, row, space, handle)),
+        Delegation::Allocate => refusal.or_else(|| under_used(board, row, space, handle)),
         Delegation::Assign => refusal,
     }
 }
@@ -129,16 +125,16 @@ fn delegation_of(status: Status) -> Delegation
 /// The piece that holds the range's first number.
 #[tactic(auto, using(crate::proofs::PieceSizes::size_bound))]
 fn piece_of(board: &Board, range: &Range) -> Option<Piece>
-    ensures piece { result ≡ piece_of board.now.pool (first_number range.now) }
+    ensures piece { result ≡ piece_of board.now.register.pool (first_number range.now) }
     ensures size { IfSome result (λ piece. size_of piece.range ≤ 2 ^ 126) }
 {
-    board.piece_of(first_number(range))
+    board.piece_of(range.first_number())
 }
 
 /// What a transfer adds to what the new holder holds: nothing, where it holds the piece already.
 fn transferred_size(board: &Board, piece: &Piece, to: &Handle) -> u128
     requires { size_of piece.now.range ≤ 2 ^ 126 }
-    ensures size { result ≡ transferred_size board.now piece.now to.now }
+    ensures size { result ≡ transferred_size board.now.register piece.now to.now }
     ensures bound { result ≤ 2 ^ 126 }
 {
     if piece.card.holder == board.holders().by_handle(to) {
@@ -150,13 +146,17 @@ fn transferred_size(board: &Board, piece: &Piece, to: &Handle) -> u128
 
 /// What is against a transfer of a range by the row of its space and of the piece's status.
 fn transfer_refusal(board: &Board, policy: &Policy, range: &Range, to: &Handle) -> Option<Refusal>
-    ensures { result ≡ on_piece board.now (first_number range.now) (transfer_rules board.now policy.now range.now.space to.now) }
+    ensures { result ≡ on_piece board.now.register (first_number range.now) (transfer_rules board.now.register policy.now range.now.space to.now) }
 {
     let piece = piece_of(board, range)?;
     let space = range.space();
     let row = policy.row(space, delegation_of(piece.card.status));
+    let kind_refusal = kind_left_out(board, &row, to);
+    if kind_refusal.is_some() {
+        return kind_refusal;
+    }
     let more = transferred_size(board, &piece, to);
-    kind_left_out(board, &row, to).or(over_cap(board, &row, space, to, more))
+    over_cap(board, &row, space, to, more)
 }
 
 /// What the policy allows of a kind of delegation of a space.
@@ -170,7 +170,7 @@ fn row_of(policy: &Policy, space: Space, delegation: Delegation) -> Row
 
 /// Why the policy doesn't allow the request, or nothing.
 pub(crate) fn policy_refusal(board: &Board, policy: &Policy, request: &Request) -> Option<Refusal>
-    ensures refusal { result ≡ first_of (policy_rules board.now policy.now request.now) }
+    ensures refusal { result ≡ first_of (policy_rules board.now.register policy.now request.now) }
     ensures sized { IfNone result (IsSizedRequest request.now) }
 {
     match request {

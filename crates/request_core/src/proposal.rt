@@ -9,7 +9,7 @@ ghost use Rattle.board.specs.Starts.{MayStartAt};
 ghost use Rattle.reg_entry.specs.Request.{IsSizedRequest};
 
 use crate::least_block::least_block;
-use board::{Board, amount_size};
+use board::Board;
 use policy_table::Policy;
 use reg_entry::{Entry, LAST_DATE, Name, Request, clamped_day};
 
@@ -22,7 +22,7 @@ fn days_later(day: u32, days: u32) -> u32
 
 /// The day of the next entry: no entry is older than the one before it.
 fn entry_day(board: &Board, day: u32) -> u32
-    ensures { result ≡ entry_day board.now day }
+    ensures { result ≡ entry_day board.now.register day }
 {
     clamped_day(day).max(board.last_day())
 }
@@ -41,14 +41,14 @@ fn until_for(policy: &Policy, request: &Request, day: u32) -> u32
 /// Where the block of a delegation starts. Nothing is sought for any other request.
 fn chosen_start(board: &Board, request: &Request) -> Option<u128>
     requires { IsSizedRequest request.now }
-    ensures start { result ≡ chosen_start board.now request.now }
+    ensures start { result ≡ chosen_start board.now.register request.now }
     ensures may { MayStartAt request.now result }
 {
     match request {
         Request::Delegate { space, amount, .. } => least_block(
             board.pieces().walk(*space),
             *space,
-            amount_size(*space, *amount),
+            space.amount_size(*amount),
         ),
         _ => None,
     }
@@ -62,7 +62,7 @@ pub(crate) fn proposed_entry(
     request: &Request,
 ) -> Entry
     requires { IsSizedRequest request.now }
-    ensures entry { result ≡ proposed_entry board.now policy.now day who.now request.now }
+    ensures entry { result ≡ proposed_entry board.now.register policy.now day who.now request.now }
     ensures split { (at : PlainNumber) → request.now ≡ Split at → result.card ≡ None }
 {
     let day = entry_day(board, day);

@@ -1,5 +1,5 @@
 use Rattle.std.proofs.Common.{◌≡◌, ◌+◌, drop}
-use Rattle.piece_book.specs.Sums.{status_sum}
+use Rattle.reg_entry.specs.Sums.{status_sum}
 use Rattle.piece_book.proofs.sums.status_sum.Given as goal
 
 abbrev pub invariant-loop-piece : goal.invariant-loop-piece

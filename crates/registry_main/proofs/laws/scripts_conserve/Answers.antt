@@ -1,17 +1,24 @@
-use Rattle.std.proofs.Common.{◌∙◌, ap}
-use Rattle.reg_entry.specs.Pieces.{size_sum}
-use Rattle.reg_entry.specs.Register.{register_pieces, card_of}
-use Rattle.registry_main.specs.Session.{rooms, new_session, accepted_entries}
+use Rattle.std.proofs.Common.{sym, subst}
+use Rattle.reg_entry.specs.Register.{Register, register_after}
+use Rattle.board.specs.Conserved.{IsConservedBy}
+use Rattle.registry_main.specs.Session.{rooms, entries_after}
 use Rattle.registry_main.proofs.laws.scripts_conserve.Goals as goal
 
-pub returns-clause-cards : goal.returns-clause-cards
-returns-clause-cards c p day script n policy =
-    ap (λ r. card_of r.pool n) (c.accepted_entries_are_legal.ensures.register p day script)
-    ∙ c.legal_entries_conserve.ensures.cards rooms (accepted_entries (new_session p day) script) n
-    (c.accepted_entries_are_legal.ensures.legal p day script policy)
-
-pub returns-clause-sizes : goal.returns-clause-sizes
-returns-clause-sizes c p day script space policy =
-    ap (λ r. size_sum (register_pieces r space)) (c.accepted_entries_are_legal.ensures.register p day script)
-    ∙ c.legal_entries_conserve.ensures.sizes rooms (accepted_entries (new_session p day) script) space
-    (c.accepted_entries_are_legal.ensures.legal p day script policy)
+pub returns : goal.returns
+returns c es p day lines policy legal =
+    let all = entries_after es p day lines in
+    let r : Register = register_after rooms all in
+    let of = c.legal_entries_go_on.ensures.of rooms all (c.accepted_entries_are_legal.ensures.legal es p day lines policy legal) in
+    let conserve = c.reached_registers_conserve.ensures in
+    let count = c.reached_registers_count.ensures in
+    subst (λ (x : Register). IsConservedBy x all) (sym (c.accepted_entries_are_legal.ensures.register es p day lines))
+    (record {
+      register = of;
+      cards = λ n. conserve.cards r all n of;
+      once = λ n. conserve.once r all n of;
+      pooled = λ n. conserve.pooled r all n of;
+      sizes = λ space. conserve.sizes r all space of;
+      entries = count.entries r all of;
+      first_day = count.first_day r all of;
+      last_day = count.last_day r all of;
+    })

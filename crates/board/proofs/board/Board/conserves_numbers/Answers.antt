@@ -1,17 +1,26 @@
-use Rattle.std.proofs.Common.{List, subst}
+use Rattle.std.proofs.Common.{List, ap, subst}
 use Rattle.reg_entry.specs.Entry.{PlainEntry}
 use Rattle.reg_entry.specs.Register.{Register}
+use Rattle.reg_entry.specs.Operations.{PlainBoard}
 use Rattle.board.specs.Conserved.{IsConservedBy}
 use Rattle.board.proofs.board.Board.conserves_numbers.Goals as goal
 
 pub returns : goal.returns
 returns c =
-    let reached = c.self.invariant.reached in
-    subst (λ (r : Register). (es : List PlainEntry) × IsConservedBy r es) c.self.view_is (
-      reached.0,
+    let es : List PlainEntry = c.self.invariant.reached.0 in
+    let of = c.self.invariant.reached.1 in
+    let conserve = c.reached_registers_conserve.ensures in
+    let count = c.reached_registers_count.ensures in
+    subst (λ (b : PlainBoard). (es : List PlainEntry) × IsConservedBy b.register es) c.self.view_is (
+      es,
       record {
-        register = reached.1;
-        cards = λ n. c.reached_registers_conserve.ensures.cards _ reached.0 n reached.1;
-        sizes = λ space. c.reached_registers_conserve.ensures.sizes _ reached.0 space reached.1;
+        register = of;
+        cards = λ n. conserve.cards _ es n of;
+        once = λ n. conserve.once _ es n of;
+        pooled = λ n. conserve.pooled _ es n of;
+        sizes = λ space. conserve.sizes _ es space of;
+        entries = count.entries _ es of;
+        first_day = count.first_day _ es of;
+        last_day = count.last_day _ es of;
       },
     )

@@ -1,5 +1,5 @@
 use Rattle.std.proofs.Common.{sym, ◌∙◌, subst, ap, rules, ◌^◌, ◌<◌}
-use Rattle.reg_laws.specs.Holdings.{held_by_card}
+use Rattle.reg_entry.specs.Holdings.{held_by_card}
 use Rattle.holding_book.specs.Book.{held_in}
 use Rattle.holding_book.proofs.Counting.{size_by_holder, fits_below, loser_is_there}
 use Rattle.num_range.specs.Range.{size_of}

@@ -6,4 +6,4 @@ use Rattle.registry_main.proofs.session.Session.decide.Goals as goal
 pub returns-in_default-clause-date : goal.returns-in_default-clause-date
 returns-in_default-clause-date c =
     subst ReplyHasDate (sym c.decide-reply.ensures.decision)
-    (decision_date c.self.inside.board c.self.inside.policy c.self.inside.day c.self.inside.who c.args.request.now c.entries-whole.ensures.whole)
+    (decision_date c.self.inside.board.register c.self.inside.policy c.self.inside.day c.self.inside.who c.args.request.now c.is_whole.ensures.whole)

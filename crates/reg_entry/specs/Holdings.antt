@@ -6,7 +6,7 @@ use Rattle.num_range.specs.Range.{PlainRange, size_of}
 use Rattle.reg_entry.specs.declared.card.Card.{Card}
 use Rattle.reg_entry.specs.declared.card.Status.TheVariants.{Allocated}
 use Rattle.reg_entry.specs.Card.{same_status, is_delegated}
-use Rattle.reg_entry.specs.Ranges.{same_space}
+use Rattle.num_range.specs.Space.{same_space}
 
 -- the numbers with this card are the holder's
 abbrev pub gives_held : ℕ → Card → Bool

@@ -7,21 +7,22 @@ use Rattle.reg_entry.specs.declared.request.Request.TheVariants.{AddHolder, Edit
 use Rattle.reg_entry.specs.Covers.{first_number}
 use Rattle.reg_entry.specs.Entry.{PlainEntry}
 use Rattle.reg_entry.specs.Next.{IsNextEntry}
+use Rattle.reg_entry.specs.Operations.{PlainBoard}
 use Rattle.reg_entry.specs.Register.{Register, after_entry, reshaped, card_of, holders_after}
 use Rattle.reg_entry.specs.Sums.{held, allocated}
 use Rattle.reg_entry.specs.Whole.{IsWholeRegister}
 use Rattle.reg_laws.specs.Reached.{IsReached}
-use Rattle.reg_laws.specs.Holdings.{held_by, allocated_by, held_by_card, allocated_by_card}
+use Rattle.reg_entry.specs.Holdings.{held_by, allocated_by, held_by_card, allocated_by_card}
 use Rattle.holding_book.specs.Book.{held_in, allocated_in}
 use Rattle.board.specs.Kinds.{is_of_pieces_or_holders}
 use Rattle.board.proofs.Steps.{register_is, register_in, entry_in, next_at, bare_card, kept_by, unchanged_holdings, exchanged_holdings, added_count, edited_count, same_holders, unshaped, pool_unpainted, pool_painted, split_place, split_room, join_place, paint_room, fits_in}
-use Rattle.board.proofs.board.Board.apply.Goals as goal
+use Rattle.board.proofs.board.Board.take_in.Goals as goal
 
 pub add-requires-clause-room : goal.add-requires-clause-room
 add-requires-clause-room c =
     let r : Register = register_in c.self.inside in
     let e : PlainEntry = entry_in c.e.inside in
-    let next : IsNextEntry r e = next_at r c.args.self.now e c.args.e.now c.self.view_is c.e.view_is c.requires.next in
+    let next : IsNextEntry r e = next_at r c.args.self.now.register e c.args.e.now (ap (λ (b : PlainBoard). b.register) c.self.view_is) c.e.view_is c.requires.next in
     let room = c.next_entries_know_holders.ensures.room r e c.in-AddHolder.holder next c.in-AddHolder.is in
     let same = c.self.invariant.holders in
     subst (λ (n : ℕ). length c.self.inside.holders.holders < n) (sym same) room
@@ -30,7 +31,7 @@ pub add-requires-in-AddHolder : goal.add-requires-in-AddHolder
 add-requires-in-AddHolder c =
     let r : Register = register_in c.self.inside in
     let e : PlainEntry = entry_in c.e.inside in
-    let next : IsNextEntry r e = next_at r c.args.self.now e c.args.e.now c.self.view_is c.e.view_is c.requires.next in
+    let next : IsNextEntry r e = next_at r c.args.self.now.register e c.args.e.now (ap (λ (b : PlainBoard). b.register) c.self.view_is) c.e.view_is c.requires.next in
     let room = c.next_entries_know_holders.ensures.room r e c.in-AddHolder.holder next c.in-AddHolder.is in
     let same = c.self.invariant.holding_room in
     let count = c.self.invariant.holdings.count in
@@ -40,7 +41,7 @@ pub invariant_of-self : goal.invariant_of-self
 invariant_of-self c =
     let r : Register = register_in c.self.inside in
     let e : PlainEntry = entry_in c.e.inside in
-    let next : IsNextEntry r e = next_at r c.args.self.now e c.args.e.now c.self.view_is c.e.view_is c.requires.next in
+    let next : IsNextEntry r e = next_at r c.args.self.now.register e c.args.e.now (ap (λ (b : PlainBoard). b.register) c.self.view_is) c.e.view_is c.requires.next in
     let kept = c.self.invariant in
     let whole : IsWholeRegister r = c.reached_registers_are_whole.ensures r kept.reached in
     let reached : IsReached (after_entry r e) = c.entries_reach_registers.ensures.next r e kept.reached next in
@@ -58,7 +59,7 @@ pub invariant_of-self-in-EditHolder : goal.invariant_of-self-in-EditHolder
 invariant_of-self-in-EditHolder c =
     let r : Register = register_in c.self.inside in
     let e : PlainEntry = entry_in c.e.inside in
-    let next : IsNextEntry r e = next_at r c.args.self.now e c.args.e.now c.self.view_is c.e.view_is c.requires.next in
+    let next : IsNextEntry r e = next_at r c.args.self.now.register e c.args.e.now (ap (λ (b : PlainBoard). b.register) c.self.view_is) c.e.view_is c.requires.next in
     let kept = c.self.invariant in
     let whole : IsWholeRegister r = c.reached_registers_are_whole.ensures r kept.reached in
     let reached : IsReached (after_entry r e) = c.entries_reach_registers.ensures.next r e kept.reached next in
@@ -76,7 +77,7 @@ pub split-requires-clause-place : goal.split-requires-clause-place
 split-requires-clause-place c =
     let r : Register = register_in c.self.inside in
     let e : PlainEntry = entry_in c.e.inside in
-    let next : IsNextEntry r e = next_at r c.args.self.now e c.args.e.now c.self.view_is c.e.view_is c.requires.next in
+    let next : IsNextEntry r e = next_at r c.args.self.now.register e c.args.e.now (ap (λ (b : PlainBoard). b.register) c.self.view_is) c.e.view_is c.requires.next in
     let kept = c.self.invariant in
     let whole : IsWholeRegister r = c.reached_registers_are_whole.ensures r kept.reached in
     split_place c.self.inside.pieces.partition c.in-Split.at (c.next_entries_split_delegated_pieces.ensures r e c.in-Split.at whole next c.in-Split.is)
@@ -85,7 +86,7 @@ pub split-requires-clause-room : goal.split-requires-clause-room
 split-requires-clause-room c =
     let r : Register = register_in c.self.inside in
     let e : PlainEntry = entry_in c.e.inside in
-    let next : IsNextEntry r e = next_at r c.args.self.now e c.args.e.now c.self.view_is c.e.view_is c.requires.next in
+    let next : IsNextEntry r e = next_at r c.args.self.now.register e c.args.e.now (ap (λ (b : PlainBoard). b.register) c.self.view_is) c.e.view_is c.requires.next in
     let kept = c.self.invariant in
     let whole : IsWholeRegister r = c.reached_registers_are_whole.ensures r kept.reached in
     let reached : IsReached (after_entry r e) = c.entries_reach_registers.ensures.next r e kept.reached next in
@@ -98,7 +99,7 @@ pub invariant_of-self-in-Split : goal.invariant_of-self-in-Split
 invariant_of-self-in-Split c =
     let r : Register = register_in c.self.inside in
     let e : PlainEntry = entry_in c.e.inside in
-    let next : IsNextEntry r e = next_at r c.args.self.now e c.args.e.now c.self.view_is c.e.view_is c.requires.next in
+    let next : IsNextEntry r e = next_at r c.args.self.now.register e c.args.e.now (ap (λ (b : PlainBoard). b.register) c.self.view_is) c.e.view_is c.requires.next in
     let kept = c.self.invariant in
     let whole : IsWholeRegister r = c.reached_registers_are_whole.ensures r kept.reached in
     let reached : IsReached (after_entry r e) = c.entries_reach_registers.ensures.next r e kept.reached next in
@@ -116,7 +117,7 @@ pub join-requires : goal.join-requires
 join-requires c =
     let r : Register = register_in c.self.inside in
     let e : PlainEntry = entry_in c.e.inside in
-    let next : IsNextEntry r e = next_at r c.args.self.now e c.args.e.now c.self.view_is c.e.view_is c.requires.next in
+    let next : IsNextEntry r e = next_at r c.args.self.now.register e c.args.e.now (ap (λ (b : PlainBoard). b.register) c.self.view_is) c.e.view_is c.requires.next in
     let kept = c.self.invariant in
     let whole : IsWholeRegister r = c.reached_registers_are_whole.ensures r kept.reached in
     join_place _ c.in-Join.at.value (c.next_entries_join_equal_pieces.ensures r e c.in-Join.at whole next c.in-Join.is)
@@ -125,7 +126,7 @@ pub invariant_of-self-in-Join : goal.invariant_of-self-in-Join
 invariant_of-self-in-Join c =
     let r : Register = register_in c.self.inside in
     let e : PlainEntry = entry_in c.e.inside in
-    let next : IsNextEntry r e = next_at r c.args.self.now e c.args.e.now c.self.view_is c.e.view_is c.requires.next in
+    let next : IsNextEntry r e = next_at r c.args.self.now.register e c.args.e.now (ap (λ (b : PlainBoard). b.register) c.self.view_is) c.e.view_is c.requires.next in
     let kept = c.self.invariant in
     let whole : IsWholeRegister r = c.reached_registers_are_whole.ensures r kept.reached in
     let reached : IsReached (after_entry r e) = c.entries_reach_registers.ensures.next r e kept.reached next in
@@ -143,7 +144,7 @@ pub exchange-requires : goal.exchange-requires
 exchange-requires c =
     let r : Register = register_in c.self.inside in
     let e : PlainEntry = entry_in c.e.inside in
-    let next : IsNextEntry r e = next_at r c.args.self.now e c.args.e.now c.self.view_is c.e.view_is c.requires.next in
+    let next : IsNextEntry r e = next_at r c.args.self.now.register e c.args.e.now (ap (λ (b : PlainBoard). b.register) c.self.view_is) c.e.view_is c.requires.next in
     let kept = c.self.invariant in
     let whole : IsWholeRegister r = c.reached_registers_are_whole.ensures r kept.reached in
     let reached : IsReached (after_entry r e) = c.entries_reach_registers.ensures.next r e kept.reached next in
@@ -185,7 +186,7 @@ pub lay-requires : goal.lay-requires
 lay-requires c =
     let r : Register = register_in c.self.inside in
     let e : PlainEntry = entry_in c.e.inside in
-    let next : IsNextEntry r e = next_at r c.args.self.now e c.args.e.now c.self.view_is c.e.view_is c.requires.next in
+    let next : IsNextEntry r e = next_at r c.args.self.now.register e c.args.e.now (ap (λ (b : PlainBoard). b.register) c.self.view_is) c.e.view_is c.requires.next in
     let kept = c.self.invariant in
     let whole : IsWholeRegister r = c.reached_registers_are_whole.ensures r kept.reached in
     let reached : IsReached (after_entry r e) = c.entries_reach_registers.ensures.next r e kept.reached next in
@@ -203,7 +204,7 @@ pub invariant_of-self-in-Some-cover : goal.invariant_of-self-in-Some-cover
 invariant_of-self-in-Some-cover c =
     let r : Register = register_in c.self.inside in
     let e : PlainEntry = entry_in c.e.inside in
-    let next : IsNextEntry r e = next_at r c.args.self.now e c.args.e.now c.self.view_is c.e.view_is c.requires.next in
+    let next : IsNextEntry r e = next_at r c.args.self.now.register e c.args.e.now (ap (λ (b : PlainBoard). b.register) c.self.view_is) c.e.view_is c.requires.next in
     let kept = c.self.invariant in
     let whole : IsWholeRegister r = c.reached_registers_are_whole.ensures r kept.reached in
     let reached : IsReached (after_entry r e) = c.entries_reach_registers.ensures.next r e kept.reached next in
@@ -225,24 +226,22 @@ pub returns-in-Some-cover : goal.returns-in-Some-cover
 returns-in-Some-cover c =
     let r : Register = register_in c.self.inside in
     let e : PlainEntry = entry_in c.e.inside in
-    let next : IsNextEntry r e = next_at r c.args.self.now e c.args.e.now c.self.view_is c.e.view_is c.requires.next in
+    let next : IsNextEntry r e = next_at r c.args.self.now.register e c.args.e.now (ap (λ (b : PlainBoard). b.register) c.self.view_is) c.e.view_is c.requires.next in
     let kept = c.self.invariant in
     let whole : IsWholeRegister r = c.reached_registers_are_whole.ensures r kept.reached in
     let kind = ap (λ (x : PlainEntry). is_of_pieces_or_holders x.request) c.e.view_is ∙ c.requires.kind in
     let alone = c.next_entries_can_be_painted.ensures.alone r e c.in-Some.card whole next c.in-Some.is in
-    record {
-      register = register_is c.self.inside.rooms c.self.inside.entries c.self.inside.first_day c.self.inside.last_day c.self.inside.pieces c.lay.new.self
-          c.self.inside.holders c.self.inside.holders e c.first_day_after-self-inside.result kind c.first_day_after-self-inside.ensures
-          (c.lay.ensures.pieces ∙ sym (pool_painted e.request e.cover e.card c.self.inside.pieces.partition c.in-Some-cover.range c.in-Some.card c.in-Some-cover.is c.in-Some.is alone))
-          (same_holders e.request e.day c.self.inside.holders.holders c.in_default.not-AddHolder c.in_default.not-EditHolder)
-          ∙ ap (λ (x : Register). after_entry x e) c.self.view_is ∙ ap (λ (x : PlainEntry). after_entry c.args.self.now x) c.e.view_is;
-    }
+    register_is c.self.inside.rooms c.self.inside.entries c.self.inside.first_day c.self.inside.last_day c.self.inside.pieces c.lay.new.self
+    c.self.inside.holders c.self.inside.holders e c.first_day_after-self-inside.result kind c.first_day_after-self-inside.ensures
+    (c.lay.ensures.pieces ∙ sym (pool_painted e.request e.cover e.card c.self.inside.pieces.partition c.in-Some-cover.range c.in-Some.card c.in-Some-cover.is c.in-Some.is alone))
+    (same_holders e.request e.day c.self.inside.holders.holders c.in_default.not-AddHolder c.in_default.not-EditHolder)
+    ∙ ap (λ (x : Register). after_entry x e) (ap (λ (b : PlainBoard). b.register) c.self.view_is) ∙ ap (λ (x : PlainEntry). after_entry c.args.self.now.register x) c.e.view_is
 
 pub invariant_of-self-in_default-card : goal.invariant_of-self-in_default-card
 invariant_of-self-in_default-card c =
     let r : Register = register_in c.self.inside in
     let e : PlainEntry = entry_in c.e.inside in
-    let next : IsNextEntry r e = next_at r c.args.self.now e c.args.e.now c.self.view_is c.e.view_is c.requires.next in
+    let next : IsNextEntry r e = next_at r c.args.self.now.register e c.args.e.now (ap (λ (b : PlainBoard). b.register) c.self.view_is) c.e.view_is c.requires.next in
     let kept = c.self.invariant in
     let whole : IsWholeRegister r = c.reached_registers_are_whole.ensures r kept.reached in
     let reached : IsReached (after_entry r e) = c.entries_reach_registers.ensures.next r e kept.reached next in
@@ -262,7 +261,7 @@ pub invariant_of-self-in_default-cover : goal.invariant_of-self-in_default-cover
 invariant_of-self-in_default-cover c =
     let r : Register = register_in c.self.inside in
     let e : PlainEntry = entry_in c.e.inside in
-    let next : IsNextEntry r e = next_at r c.args.self.now e c.args.e.now c.self.view_is c.e.view_is c.requires.next in
+    let next : IsNextEntry r e = next_at r c.args.self.now.register e c.args.e.now (ap (λ (b : PlainBoard). b.register) c.self.view_is) c.e.view_is c.requires.next in
     let kept = c.self.invariant in
     let whole : IsWholeRegister r = c.reached_registers_are_whole.ensures r kept.reached in
     let some = c.next_entries_can_be_painted.ensures.cover r e c.in-Some.card whole next c.in-Some.is in
@@ -272,7 +271,7 @@ pub returns-in_default-cover : goal.returns-in_default-cover
 returns-in_default-cover c =
     let r : Register = register_in c.self.inside in
     let e : PlainEntry = entry_in c.e.inside in
-    let next : IsNextEntry r e = next_at r c.args.self.now e c.args.e.now c.self.view_is c.e.view_is c.requires.next in
+    let next : IsNextEntry r e = next_at r c.args.self.now.register e c.args.e.now (ap (λ (b : PlainBoard). b.register) c.self.view_is) c.e.view_is c.requires.next in
     let kept = c.self.invariant in
     let whole : IsWholeRegister r = c.reached_registers_are_whole.ensures r kept.reached in
     let some = c.next_entries_can_be_painted.ensures.cover r e c.in-Some.card whole next c.in-Some.is in

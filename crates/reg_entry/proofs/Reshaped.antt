@@ -7,9 +7,9 @@ use Rattle.num_range.specs.Space.{top_of}
 use Rattle.num_range.specs.Range.{size_of}
 use Rattle.reg_entry.specs.declared.piece.Piece.{Piece}
 use Rattle.reg_entry.specs.Card.{is_available}
-use Rattle.reg_entry.specs.Pieces.{holds, piece_at, card_at, size_sum, can_join, joined_pair, RisesFrom, IsSettledAfter, IsSettled, AllPiecesOf, ArePieces}
+use Rattle.reg_entry.specs.Pieces.{piece_holds, piece_at, card_at, size_sum, can_join, joined_pair, RisesFrom, IsSettledAfter, IsSettled, AllPiecesOf, ArePieces}
 use Rattle.reg_entry.specs.Reshaping.{holds_past_first, split_at_number, joined_at_after, joined_at}
-use Rattle.reg_laws.specs.Reshaping.{IsFixedAt, CanJoinAt}
+use Rattle.reg_entry.specs.Reshaping.{IsFixedAt, CanJoinAt}
 use Rattle.reg_entry.proofs.Holding.{piece_at-below, holds_true, holds_from, not_held_above, below_false, above_false}
 use Rattle.reg_entry.proofs.Joining.{joined_pair_is_piece}
 use Rattle.reg_entry.proofs.Lookups.{card_at-cons, card_at-alike}
@@ -94,7 +94,7 @@ card_at-split low (p ∷ ps) at x rises =
           let inside = past_first p at t in
           ap (λ xs. card_at xs x) (split_first p ps at rises.2 t)
           ∙ card_at-cons (left_part p at) (right_part p at ∷ ps) x
-          ∙ ap (λ o. cond (holds (left_part p at) x) (Some p.card) o) (card_at-cons (right_part p at) ps x)
+          ∙ ap (λ o. cond (piece_holds (left_part p at) x) (Some p.card) o) (card_at-cons (right_part p at) ps x)
           ∙ two_parts p.range.first at p.range.last x (Some p.card) (card_at ps x) inside.0 inside.1
           ∙ sym (card_at-cons p ps x)
       | inr f ↦
@@ -110,14 +110,14 @@ cannot_join_left p q f =
 cannot_join_right : (p q : Piece) → is_available q.card.status ≡ false → can_join p q ≡ false
 cannot_join_right p q f = and_right ((p.range.last + 1 == q.range.first) && is_available p.card.status) (is_available q.card.status) f
 
-fixed_rest : (p : Piece) (ps : List Piece) (at : ℕ) → holds p at ≡ false → IsFixedAt (p ∷ ps) at → IsFixedAt ps at
-fixed_rest p ps at f fixed q e = fixed q (cond-false (holds p at) (Some p) (piece_at ps at) f ∙ e)
+fixed_rest : (p : Piece) (ps : List Piece) (at : ℕ) → piece_holds p at ≡ false → IsFixedAt (p ∷ ps) at → IsFixedAt ps at
+fixed_rest p ps at f fixed q e = fixed q (cond-false (piece_holds p at) (Some p) (piece_at ps at) f ∙ e)
 
-held_if_past : (p : Piece) (at : ℕ) → holds_past_first p at ≡ true → holds p at ≡ true
+held_if_past : (p : Piece) (at : ℕ) → holds_past_first p at ≡ true → piece_holds p at ≡ true
 held_if_past p at t = let inside = past_first p at t in holds_from p at (omega arith) inside.1
 
-fixed_first : (p : Piece) (ps : List Piece) (at : ℕ) → holds p at ≡ true → IsFixedAt (p ∷ ps) at → is_available p.card.status ≡ false
-fixed_first p ps at t fixed = fixed p (cond-true (holds p at) (Some p) (piece_at ps at) t)
+fixed_first : (p : Piece) (ps : List Piece) (at : ℕ) → piece_holds p at ≡ true → IsFixedAt (p ∷ ps) at → is_available p.card.status ≡ false
+fixed_first p ps at t fixed = fixed p (cond-true (piece_holds p at) (Some p) (piece_at ps at) t)
 
 -- a piece before the list can be joined with none after the split, where it could with none before
 settled_before_split : (p : Piece) (low : ℕ) (ps : List Piece) (at : ℕ) → RisesFrom low ps → IsSettledAfter p ps → IsFixedAt ps at
@@ -132,7 +132,7 @@ settled_before_split p low (q ∷ qs) at rises settled fixed =
       | inr f ↦
           subst (IsSettledAfter p) (sym (split_rest q qs at f)) (
             settled.0,
-            elim (cases_Bool (holds q at)) [
+            elim (cases_Bool (piece_holds q at)) [
               | inl h ↦
                   let inside = holds_true q at h in
                   subst (IsSettledAfter q) (sym (split_above (q.range.last + 1) at qs rises.2 (omega arith))) settled.1
@@ -159,7 +159,7 @@ split_settled low (p ∷ ps) at rises settled fixed =
           (cannot_join_left (left_part p at) (right_part p at) no, same_after p ps settled)
       | inr f ↦
           subst IsSettled (sym (split_rest p ps at f))
-          (elim (cases_Bool (holds p at)) [
+          (elim (cases_Bool (piece_holds p at)) [
             | inl h ↦
                 let inside = holds_true p at h in
                 subst (IsSettledAfter p) (sym (split_above (p.range.last + 1) at ps rises.2 (omega arith))) settled
@@ -222,12 +222,12 @@ join_cases low p q qs at rises can =
       | inl t ↦
           let begins : q.range.first ≡ at = eqb-true q.range.first at t in
           let none : piece_at (q ∷ qs) (at - 1) ≡ None = piece_at-below q.range.first (q ∷ qs) (at - 1) (omega arith, rises.2.1, rises.2.2) (let pos = can.positive in omega arith) in
-          let left = held_by_first (holds p (at - 1)) p (piece_at (q ∷ qs) (at - 1)) can.left can.holds_before none in
+          let left = held_by_first (piece_holds p (at - 1)) p (piece_at (q ∷ qs) (at - 1)) can.left can.holds_before none in
           let inside = holds_true p (at - 1) left.0 in
-          let unheld : holds p at ≡ false = not_held_above p at (omega arith) in
+          let unheld : piece_holds p at ≡ false = not_held_above p at (omega arith) in
           let right : q ≡ can.right = same_Some q can.right
-          (sym (cond-true (holds q at) (Some q) (piece_at qs at) (holds_from q at (omega arith) (let order = rises.2.1 in omega arith)))
-          ∙ sym (cond-false (holds p at) (Some p) (piece_at (q ∷ qs) at) unheld) ∙ can.holds_at) in
+          (sym (cond-true (piece_holds q at) (Some q) (piece_at qs at) (holds_from q at (omega arith) (let order = rises.2.1 in omega arith)))
+          ∙ sym (cond-false (piece_holds p at) (Some p) (piece_at (q ∷ qs) at) unheld) ∙ can.holds_at) in
           let one : p.card ≡ q.card = ap (λ r. r.card) left.1 ∙ can.one_card ∙ sym (ap (λ r. r.card) right) in
           inl (record {
             begins = begins;
@@ -237,18 +237,18 @@ join_cases low p q qs at rises can =
           })
       | inr f ↦
           let other : q.range.first ≡ at → ⊥ = eqb-false q.range.first at f in
-          let not_at : holds p at ≡ false = false_from_ne_true (holds p at) (λ h.
-          let same : p ≡ can.right = same_Some p can.right (sym (cond-true (holds p at) (Some p) (piece_at (q ∷ qs) at) h) ∙ can.holds_at) in
+          let not_at : piece_holds p at ≡ false = false_from_ne_true (piece_holds p at) (λ h.
+          let same : p ≡ can.right = same_Some p can.right (sym (cond-true (piece_holds p at) (Some p) (piece_at (q ∷ qs) at) h) ∙ can.holds_at) in
           let begins : p.range.first ≡ at = ap (λ r. r.range.first) same ∙ can.begins in
           let none : piece_at (p ∷ q ∷ qs) (at - 1) ≡ None =
           piece_at-below p.range.first (p ∷ q ∷ qs) (at - 1) (omega arith, rises.1, rises.2) (let pos = can.positive in omega arith) in
           none-some can.left (sym none ∙ can.holds_before)) in
-          let holds_at : piece_at (q ∷ qs) at ≡ Some can.right = sym (cond-false (holds p at) (Some p) (piece_at (q ∷ qs) at) not_at) ∙ can.holds_at in
-          let not_before : holds p (at - 1) ≡ false = false_from_ne_true (holds p (at - 1)) (λ h.
+          let holds_at : piece_at (q ∷ qs) at ≡ Some can.right = sym (cond-false (piece_holds p at) (Some p) (piece_at (q ∷ qs) at) not_at) ∙ can.holds_at in
+          let not_before : piece_holds p (at - 1) ≡ false = false_from_ne_true (piece_holds p (at - 1)) (λ h.
           let inside = holds_true p (at - 1) h in
           let ends : p.range.last + 1 ≡ at = elim (cases_lt p.range.last at) [
             | inl lt ↦ let pos = can.positive in omega arith
-            | inr ge ↦ absurd (both_ways (holds p at) not_at (holds_from p at (let pos = can.positive in omega arith) ge))
+            | inr ge ↦ absurd (both_ways (piece_holds p at) not_at (holds_from p at (let pos = can.positive in omega arith) ge))
           ] in
           let later : at < q.range.first = elim (cases_lt at q.range.first) [
             | inl lt ↦ lt
@@ -261,7 +261,7 @@ join_cases low p q qs at rises can =
               left = can.left;
               right = can.right;
               positive = can.positive;
-              holds_before = sym (cond-false (holds p (at - 1)) (Some p) (piece_at (q ∷ qs) (at - 1)) not_before) ∙ can.holds_before;
+              holds_before = sym (cond-false (piece_holds p (at - 1)) (Some p) (piece_at (q ∷ qs) (at - 1)) not_before) ∙ can.holds_before;
               holds_at = holds_at;
               begins = can.begins;
               one_card = can.one_card;
@@ -321,8 +321,8 @@ card_at-join low p (q ∷ qs) at x rises can =
           ap (λ xs. card_at xs x) (join_first p q qs at m.begins)
           ∙ card_at-cons (joined_pair p q) qs x
           ∙ either_part p.range.first p.range.last q.range.first q.range.last x (Some p.card) (card_at qs x) rises.1 (m.touches ∙ sym m.begins) rises.2.1
-          ∙ ap (λ c. cond (holds p x) (Some p.card) (cond (holds q x) (Some c) (card_at qs x))) m.one_card
-          ∙ ap (λ o. cond (holds p x) (Some p.card) o) (sym (card_at-cons q qs x))
+          ∙ ap (λ c. cond (piece_holds p x) (Some p.card) (cond (piece_holds q x) (Some c) (card_at qs x))) m.one_card
+          ∙ ap (λ o. cond (piece_holds p x) (Some p.card) o) (sym (card_at-cons q qs x))
           ∙ sym (card_at-cons p (q ∷ qs) x)
       | inr n ↦
           ap (λ xs. card_at xs x) (join_rest p q qs at n.0)

@@ -1,5 +1,5 @@
-use Rattle.reg_laws.proofs.Reshaped.{card_at-split, size_sum-split, split_keeps}
-use Rattle.reg_laws.proofs.pieces.splitting_keeps_cards.Goals as goal
+use Rattle.reg_entry.proofs.Reshaped.{card_at-split, size_sum-split, split_keeps}
+use Rattle.reg_entry.proofs.laws.splitting_keeps_pieces.Goals as goal
 
 pub returns : goal.returns
 returns c = record {

@@ -4,15 +4,15 @@ use Rattle.std.proofs.lemmas.Bool.{cases_Bool}
 use Rattle.std.proofs.lemmas.Option.{none-some, same_Some}
 use Rattle.num_range.specs.declared.space.Space.{Space}
 use Rattle.reg_entry.specs.declared.piece.Piece.{Piece}
-use Rattle.reg_entry.specs.Pieces.{holds, piece_at, RisesFrom, AllPiecesOf}
-use Rattle.board.specs.Found.{IsFoundIn}
+use Rattle.reg_entry.specs.Pieces.{piece_holds, piece_at, RisesFrom, AllPiecesOf}
+use Rattle.board.specs.FoundPiece.{IsFoundIn}
 use Rattle.reg_entry.proofs.Holding.{holds_true, piece_at-first, piece_at-rest}
 
 pub found_in : (space : Space) (low : ℕ) (ps : List Piece) (x : ℕ) (p : Piece) → RisesFrom low ps → AllPiecesOf space ps
     → piece_at ps x ≡ Some p → IsFoundIn space low x p
 found_in space low [] x p rises each e = absurd (none-some p e)
 found_in space low (q ∷ qs) x p rises each e =
-    elim (cases_Bool (holds q x)) [
+    elim (cases_Bool (piece_holds q x)) [
       | inl t ↦
           let same : q ≡ p = same_Some q p (sym (piece_at-first q qs x t) ∙ e) in
           let h = holds_true q x t in
