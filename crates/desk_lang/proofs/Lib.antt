@@ -1,7 +1,5 @@
-pub mod Fronts
 pub mod Hosts
 pub mod ValidLines
-mod WrittenRows
 pub mod ReadWords
 pub mod WordForms
 pub mod ReadValues

@@ -21,11 +21,11 @@ use Rattle.reg_entry.specs.Days.{last_date, two_digits, date_text, date_of_day, 
 use Rattle.reg_entry.specs.Entry.{PlainEntry}
 use Rattle.reg_entry.specs.Name.{is_name_byte, is_name}
 use Rattle.reg_entry.proofs.DayTexts.{day_value}
-use Rattle.desk_lang.specs.EntryText.{cover_word, holder_word, day_word, card_text, entry_text}
+use Rattle.desk_text.specs.EntryText.{cover_word, holder_word, day_word, card_text, entry_text}
 use Rattle.desk_lang.specs.EntryReading.{IsWritableCover, IsHolderNumber, IsWritableCard, IsWritableEntry, SpellsEntry, optional, card_day_of, seq_of, status_of_word, card_of_words, request_of_line, entry_line}
-use Rattle.desk_lang.specs.RequestText.{range_word, request_text}
+use Rattle.desk_text.specs.RequestText.{range_word, request_text}
 use Rattle.desk_lang.specs.Values.{label_of, decimal_of}
-use Rattle.desk_lang.specs.Vocabulary.{status_word}
+use Rattle.desk_text.specs.Vocabulary.{status_word}
 use Rattle.desk_lang.specs.Words.{rest_at, ◌>>=◌}
 use Rattle.desk_lang.proofs.ReadWords.{IsWordByte, IsWord, first_read, plain_read}
 use Rattle.desk_lang.proofs.WordForms.{decimal_bytes, range_is_word, length_range, all_from_test}

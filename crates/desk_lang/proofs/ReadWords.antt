@@ -5,9 +5,10 @@ use Rattle.std.proofs.lemmas.List.Elements.{All-head, All-tail}
 use Rattle.std.proofs.Math.Seq.{take-append_seam, drop-append_seam}
 use Rattle.std.specs.Option.{option_map}
 use Rattle.addr_text.specs.Reading.{parted_at}
+use Rattle.addr_text.proofs.Separators.{parted_here}
 use Rattle.desk_lang.specs.declared.rest.Form.TheVariants.{Plain, Quoted}
 use Rattle.desk_lang.specs.declared.rest.Malformed.{Malformed}
-use Rattle.desk_lang.specs.Vocabulary.{quoted}
+use Rattle.desk_text.specs.Vocabulary.{quoted}
 use Rattle.desk_lang.specs.Words.{PlainRest, PlainWord, is_blank, rest_at, without_blanks, word_length, plain_word, ends_word, quoted_word, word_of, first_word, word_in, end_place, value_of_word, next_value, ◌>>=◌}
 
 -- no blank, no tab and no quote
@@ -44,19 +45,13 @@ plain_first place (b ∷ word) more h e =
     ∙ ap Some (cond-false (b == 34) (quoted_word place (parted_at 34 (word ++ more))) (plain_word place (b ∷ word ++ more)) (ne_eqb b 34 byte.2)
     ∙ plain_taken place (b ∷ word) more h.bytes e)
 
-parted_quote : (content more : List ℕ) → All (λ b. b ≢ 34) content → parted_at 34 (content ++ 34 ∷ more) ≡ Some (content, more)
-parted_quote [] more h = refl
-parted_quote (b ∷ content) more h =
-    cond-false (b == 34) (Some ([], content ++ 34 ∷ more)) (option_map (λ parts. (b ∷ parts.0, parts.1)) (parted_at 34 (content ++ 34 ∷ more))) (ne_eqb b 34 (All-head (λ b. b ≢ 34) b content h))
-    ∙ ap (option_map (λ parts. (b ∷ parts.0, parts.1))) (parted_quote content more (All-tail (λ b. b ≢ 34) b content h))
-
 abbrev pub quoted_at : ℕ → List ℕ → List ℕ → PlainWord
 quoted_at place content more = record { place = place; form = Quoted; bytes = content; behind = rest_at (place + length content + 2) more }
 
 -- a quoted text that ends here is the first word
 pub quoted_first : (place : ℕ) (content more : List ℕ) → All (λ b. b ≢ 34) content → ends_word more ≡ true → first_word (rest_at place (34 ∷ content ++ 34 ∷ more)) ≡ Some (quoted_at place content more)
 quoted_first place content more h e =
-    ap (λ parts. Some (quoted_word place parts)) (parted_quote content more h)
+    ap (λ parts. Some (quoted_word place parts)) (parted_here 34 content more h)
     ∙ ap Some (cond-true (ends_word more) (quoted_at place content more) _ e)
 
 -- ---- a value behind a blank, with what is read behind it

@@ -1,8 +1,3 @@
-pub mod Vocabulary
-pub mod RequestText
-pub mod EntryText
-pub mod ReplyText
-pub mod ShownText
 pub mod Words
 pub mod Values
 pub mod Grammar

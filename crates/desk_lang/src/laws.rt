@@ -2,7 +2,7 @@
 ghost use Rattle.std.specs.Prelude.{◌≡◌, ◌≤◌, ℕ, List, length, Ok, IfOk};
 ghost use Rattle.reg_entry.specs.declared.request.Request.{Request};
 ghost use Rattle.desk_lang.specs.declared.line.Line.TheVariants as lines;
-ghost use Rattle.desk_lang.specs.RequestText.{request_text};
+ghost use Rattle.desk_text.specs.RequestText.{request_text};
 ghost use Rattle.reg_entry.specs.Entry.{PlainEntry};
 ghost use Rattle.desk_lang.specs.EntryReading.{SpellsEntry};
 ghost use Rattle.desk_lang.specs.Writable.{IsWritable};

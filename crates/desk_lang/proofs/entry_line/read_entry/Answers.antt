@@ -1,6 +1,6 @@
 use Rattle.std.proofs.Common.{◌≡◌, ◌∙◌, length, ap, subst, arith}
 use Rattle.desk_lang.specs.EntryReading.{IsWritableEntry}
-use Rattle.desk_lang.specs.EntryText.{entry_text}
+use Rattle.desk_text.specs.EntryText.{entry_text}
 use Rattle.desk_lang.proofs.ReadEntries.{entry_found, length_entry}
 use Rattle.desk_lang.proofs.entry_line.read_entry.Goals as goal
 
