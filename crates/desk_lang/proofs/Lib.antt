@@ -5,3 +5,5 @@ pub mod WordForms
 pub mod ReadValues
 pub mod ReadLines
 pub mod ReadEntries
+pub mod FrontWords
+pub mod WrongPlaces

@@ -3,3 +3,4 @@ pub mod Values
 pub mod Grammar
 pub mod Writable
 pub mod EntryReading
+pub mod Places

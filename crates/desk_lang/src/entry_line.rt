@@ -10,12 +10,12 @@ ghost use Rattle.reg_entry.specs.Request.{IsSizedRequest};
 ghost use Rattle.desk_lang.specs.Values.{decimal_of};
 ghost use Rattle.desk_lang.specs.Words.{next_value};
 
-use desk_text::write_entry;
 use crate::line::{LINE_ROOM, Line, read_line};
 use crate::rest::{Form, Malformed, Rest};
 use crate::writable::is_writable;
 use addr_text::{read_decimal, read_range};
 use arrayvec::ArrayVec;
+use desk_text::write_entry;
 use itoa::Buffer;
 use num_range::Range;
 use reg_entry::{Card, Entry, LAST_DATE, Request, Status, read_day};

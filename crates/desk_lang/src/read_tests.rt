@@ -1,9 +1,45 @@
-use crate::write_tests::{FOUR, SIX, handle, holder, host, number, range, servers};
 use crate::{Line, is_writable, read_entry, read_line};
-use num_range::{Number, Space};
-use reg_entry::{Card, Delegation, Entry, Kind, Name, Request, Status};
+use num_range::{Number, Range, Space};
+use reg_entry::{
+    Card, Cc, Delegation, Entry, Handle, Holder, Host, Kind, Name, Request, Servers, Status, Text,
+};
 use std::process::Abort;
 use std::test::Fail;
+
+// The first numbers of the documentation blocks 192.0.2.0/24 (RFC 5737) and 2001:db8::/32 (RFC 3849).
+const FOUR: u128 = 0xc000_0200;
+
+const SIX: u128 = 0x2001_0db8 << 96;
+
+fn range(space: Space, first: u128, last: u128) -> Result<Range, Fail> {
+    Ok(Range::new(space, first, last).ok_or("a range")?)
+}
+
+fn number(space: Space, value: u128) -> Result<Number, Fail> {
+    Ok(Number::new(space, value).ok_or("a number")?)
+}
+
+fn handle(bytes: &[u8]) -> Result<Handle, Fail> {
+    Ok(Handle::read(bytes).ok_or("a handle")?)
+}
+
+fn host(bytes: &[u8]) -> Result<Host, Fail> {
+    Ok(Host::read(bytes).ok_or("a host")?)
+}
+
+fn servers(hosts: &[Host]) -> Result<Servers, Fail> {
+    Ok(Servers::new(hosts).ok_or("servers")?)
+}
+
+fn holder(bytes: &[u8], kind: Kind, cc: &[u8], name: &[u8], email: &[u8]) -> Result<Holder, Fail> {
+    Ok(Holder {
+        handle: handle(bytes)?,
+        kind,
+        cc: Cc::read(cc).ok_or("a country")?,
+        name: Text::read(name).ok_or("a text")?,
+        email: Text::read(email).ok_or("a text")?,
+    })
+}
 
 fn is_request(rt: &impl Abort, text: &str, request: &Request) {
     let is_read = match read_line(text.as_bytes()) {
