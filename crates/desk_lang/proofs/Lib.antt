@@ -7,3 +7,4 @@ pub mod ReadLines
 pub mod ReadEntries
 pub mod FrontWords
 pub mod WrongPlaces
+pub mod WrongLines

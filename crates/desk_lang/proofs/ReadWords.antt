@@ -19,7 +19,7 @@ pub record IsWord (word : List ℕ) : Type 0 where
   pub some : 0 < length word
   pub bytes : All IsWordByte word
 
-no_blank : (b : ℕ) → IsWordByte b → is_blank b ≡ false
+pub no_blank : (b : ℕ) → IsWordByte b → is_blank b ≡ false
 no_blank b h = rw (ne_eqb b 32 h.0, ne_eqb b 9 h.1) refl
 
 -- no blank and no tab

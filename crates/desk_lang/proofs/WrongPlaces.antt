@@ -43,23 +43,25 @@ module _ {T U : Type 0} (form : Form) (value : List ℕ → Option T) (then : T 
   by_word w = (word_in form 0 (Some w) >>= λ w. value_of_word w (value w.bytes)) >>= then
 
   -- no such word has a value
-  abbrev IsRefused : Form → List ℕ → Type 0
+  abbrev pub IsRefused : Form → List ℕ → Type 0
   IsRefused f content = (same_form f form ≡ false) ⊎ (value content ≡ None)
 
-  refused : (w : PlainWord) → IsRefused w.form w.bytes → by_word w ≡ Err (malformed_at w.place)
+  -- a word of the form goes on as its value does
+  pub of_form : (w : PlainWord) → same_form w.form form ≡ true → by_word w ≡ (value_of_word w (value w.bytes) >>= then)
+  of_form w same = ap (λ r. (r >>= λ w. value_of_word w (value w.bytes)) >>= then) (cond-true (same_form w.form form) (Ok w) (Err (malformed_at w.place)) same)
+
+  pub refused : (w : PlainWord) → IsRefused w.form w.bytes → by_word w ≡ Err (malformed_at w.place)
   refused w (inl other) = ap (λ r. (r >>= λ w. value_of_word w (value w.bytes)) >>= then) (cond-false (same_form w.form form) (Ok w) (Err (malformed_at w.place)) other)
   refused w (inr none) =
       elim (cases_Bool (same_form w.form form)) [
         | inl same ↦
-            ap (λ r. (r >>= λ w. value_of_word w (value w.bytes)) >>= then) (cond-true (same_form w.form form) (Ok w) (Err (malformed_at w.place)) same)
-            ∙ ap (λ o. value_of_word w o >>= then) none
+            of_form w same ∙ ap (λ o. value_of_word w o >>= then) none
         | inr other ↦ ap (λ r. (r >>= λ w. value_of_word w (value w.bytes)) >>= then) (cond-false (same_form w.form form) (Ok w) (Err (malformed_at w.place)) other)
       ]
 
   accepted : (w : PlainWord) (x : T) → same_form w.form form ≡ true → value w.bytes ≡ Some x → by_word w ≡ then (x, w.behind)
   accepted w x same some =
-      ap (λ r. (r >>= λ w. value_of_word w (value w.bytes)) >>= then) (cond-true (same_form w.form form) (Ok w) (Err (malformed_at w.place)) same)
-      ∙ ap (λ o. value_of_word w o >>= then) some
+      of_form w same ∙ ap (λ o. value_of_word w o >>= then) some
 
   module _ (read : PlainRest → Result U Malformed) (on_word : (rest : PlainRest) (w : PlainWord) → first_word rest ≡ Some w → read rest ≡ by_word w)
       (on_none : (place : ℕ) (text : List ℕ) (fault : Malformed) → AreBlank text → read (rest_at place text) ≡ Err fault → fault ≡ malformed_at (place + length text))
@@ -205,7 +207,7 @@ module _ {T U : Type 0} (form : Form) (value : List ℕ → Option T) (then : T 
 
 -- ---- the end of a line
 
-ok_never : {A : Type 0} (x : A) (fault : Malformed) → Ok x ≡ Err fault → ⊥
+pub ok_never : {A : Type 0} (x : A) (fault : Malformed) → Ok x ≡ Err fault → ⊥
 ok_never x fault h = absurd (cc)
 
 pub end_filled : {A : Type 0} (meaning : A) → Filled (at_end meaning) 0
