@@ -12,7 +12,6 @@ mod number;
 mod parted;
 mod range;
 
-
 pub use address::read_addr;
 pub use block::read_block;
 pub use decimal::read_decimal;

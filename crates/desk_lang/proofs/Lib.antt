@@ -8,3 +8,4 @@ pub mod ReadEntries
 pub mod FrontWords
 pub mod WrongPlaces
 pub mod WrongLines
+pub mod NextEntries

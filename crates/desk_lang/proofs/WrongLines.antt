@@ -445,10 +445,12 @@ module _ (front text : List ℕ) (e : line_of (front ++ text) ≡ Err (malformed
 
   completed : length front + 17 ≤ 1024 → (more : List ℕ) × (length more ≤ 17) × IsOk (line_of (front ++ more))
   completed room =
-      let more = wrong_there.more in
-      (more, wrong_there.short,
-      subst (λ (r : Result Line Malformed). IsOk r)
-      (ap (λ t. line_from (rest_at 1 (t ++ more))) parting.0 ∙ sym (short_line (front ++ more) (omega (arith, length-append front more, wrong_there.short)))) wrong_there.goes_on)
+      let more = wrong_there.more in (
+        more,
+        wrong_there.short,
+        subst (λ (r : Result Line Malformed). IsOk r)
+            (ap (λ t. line_from (rest_at 1 (t ++ more))) parting.0 ∙ sym (short_line (front ++ more) (omega (arith, length-append front more, wrong_there.short)))) wrong_there.goes_on,
+      )
 
 -- a line that is too long goes wrong behind all that is read
 too_long : (front text : List ℕ) → line_of (front ++ text) ≡ Err (malformed_at (length front + 1)) → 1024 < length (front ++ text) → length front ≡ 1024

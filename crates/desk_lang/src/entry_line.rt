@@ -6,6 +6,8 @@ ghost use Rattle.desk_lang.specs.declared.rest.Form.TheVariants.{Plain};
 ghost use Rattle.desk_lang.specs.EntryReading.{IsHolderNumber, IsWritableCover, IsWritableCard, IsWritableEntry, SpellsEntry, optional, card_day_of, seq_of, status_of_word, card_of_words, request_of_rest, entry_line};
 ghost use Rattle.reg_entry.specs.Days.{last_date};
 ghost use Rattle.desk_text.specs.EntryText.{CardHasDates, entry_text};
+ghost use Rattle.reg_entry.specs.Next.{IsNextEntry};
+ghost use Rattle.reg_entry.specs.Register.{Register};
 ghost use Rattle.reg_entry.specs.Request.{IsSizedRequest};
 ghost use Rattle.desk_lang.specs.Values.{decimal_of};
 ghost use Rattle.desk_lang.specs.Words.{next_value};
@@ -243,6 +245,28 @@ pub fn is_writable_entry(e: &Entry) -> bool
     is_writable_card(&e.cover, &e.card)
 }
 
+fn has_holder_number(card: &Option<Card>)
+    ensures { IfSome card.now (λ c. IsHolderNumber c.holder) }
+{
+    if let Some(card) = card {
+        has_word(card.holder);
+    }
+}
+
+/// Tells callers that an entry that may come next has a written text, and that it is read from it again.
+pub fn next_is_writable(e: &Entry)
+    ensures writable { (r : Register) → IsNextEntry r e.now → IsWritableEntry e.now }
+    ensures spelled { (r : Register) → IsNextEntry r e.now → SpellsEntry (entry_text e.now) e.now }
+    ensures dates { (r : Register) → IsNextEntry r e.now
+        → (e.now.day ≤ last_date) × CardHasDates e.now.card }
+{
+    has_decimal(e.seq);
+    let _ = e.who.bytes();
+    has_range(&e.cover);
+    has_holder_number(&e.card);
+    is_writable(&e.request);
+}
+
 /// Whether the text is the one that is written of the entry.
 fn is_text_of(text: &[u8], e: &Entry) -> bool
     requires date { e.now.day ≤ last_date }
@@ -258,6 +282,7 @@ fn is_text_of(text: &[u8], e: &Entry) -> bool
 pub fn read_entry(text: &[u8]) -> Option<Entry>
     ensures some { IfSome result (SpellsEntry text.now) }
     ensures none { IfNone result ((e : PlainEntry) → ¬ (SpellsEntry text.now e)) }
+    ensures found { (e : PlainEntry) → SpellsEntry text.now e → result ≡ Some e }
 {
     if text.len() > LINE_ROOM {
         return None;

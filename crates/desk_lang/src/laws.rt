@@ -35,7 +35,7 @@ pub fn spells_one_entry()
 pub fn wrong_whatever_follows()
     ensures place { (text : List ℕ) (fault : Malformed) → line_of text ≡ Err fault
         → (front : List ℕ) × (behind : List ℕ) × (text ≡ front ++ behind)
-            × (fault ≡ malformed_at (length front + 1)) }
+        × (fault ≡ malformed_at (length front + 1)) }
     ensures word { (front word behind other : List ℕ) → IsWordText word
         → ends_word behind ≡ true → ends_word other ≡ true
         → line_of (front ++ (word ++ behind)) ≡ Err (malformed_at (length front + 1))
