@@ -9,7 +9,7 @@ use Rattle.reg_entry.specs.declared.entry.Reply.TheVariants.{Accepted, Refused}
 use Rattle.reg_entry.specs.declared.refusal.Refusal.{Refusal}
 use Rattle.reg_entry.specs.declared.refusal.Refusal.TheVariants.{Malformed, UnknownHostmaster, OutsidePool, NotOnePiece, WrongStatus, UnknownHolder, NotHolder, HandleTaken, Overlap, NoSub, NoReverse, CardsDiffer, LengthOutOfPolicy, HolderKind, OverCap, UnderUsed, HoldTime, NotDue, HasSubs, Straddled, NoBlock, NoReverseSpace, RegisterFull, HoldersFull, JournalFull, SubsFull, ReverseFull}
 use Rattle.reg_entry.specs.Days.{last_date, day_text}
-use Rattle.desk_lang.specs.Vocabulary.{kind_word, status_word}
+use Rattle.desk_text.specs.Vocabulary.{kind_word, status_word}
 
 -- a range with blanks round the `-` between its first and its last number
 abbrev pub spaced_range : PlainRange → List ℕ

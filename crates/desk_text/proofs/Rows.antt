@@ -11,9 +11,9 @@ use Rattle.reg_entry.specs.declared.request.Delegation.TheVariants.{Allocate}
 use Rattle.reg_entry.specs.declared.request.Request.TheVariants.{AddHolder, Delegate, SetReverse}
 use Rattle.reg_entry.specs.Days.{date_of_day}
 use Rattle.reg_entry.specs.Entry.{PlainEntry}
-use Rattle.desk_lang.specs.RequestText.{request_text}
-use Rattle.desk_lang.specs.EntryText.{entry_text}
-use Rattle.desk_lang.specs.ReplyText.{reply_text}
+use Rattle.desk_text.specs.RequestText.{request_text}
+use Rattle.desk_text.specs.EntryText.{entry_text}
+use Rattle.desk_text.specs.ReplyText.{reply_text}
 
 abbrev first_64 : PlainRange
 first_64 = record { space = Ipv4; first = 0xc0000200; last = 0xc000023f }

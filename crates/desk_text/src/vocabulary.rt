@@ -1,6 +1,6 @@
 //! The words of the desk language.
 ghost use Rattle.std.specs.Prelude.{◌≡◌, ◌≤◌, length};
-ghost use Rattle.desk_lang.specs.Vocabulary.{space_word, kind_word, status_word};
+ghost use Rattle.desk_text.specs.Vocabulary.{space_word, kind_word, status_word};
 
 use num_range::Space;
 use reg_entry::{Kind, Status};

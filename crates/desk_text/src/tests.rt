@@ -1,7 +1,7 @@
 ghost use Rattle.std.specs.Prelude.{◌≤◌};
 ghost use Rattle.reg_entry.specs.Days.{last_date};
-ghost use Rattle.desk_lang.specs.EntryText.{CardHasDates};
-ghost use Rattle.desk_lang.specs.ReplyText.{RefusalHasDate, ReplyHasDate};
+ghost use Rattle.desk_text.specs.EntryText.{CardHasDates};
+ghost use Rattle.desk_text.specs.ReplyText.{RefusalHasDate, ReplyHasDate};
 
 use crate::{write_entry, write_reply, write_request};
 use arrayvec::ArrayVec;
@@ -14,37 +14,31 @@ use std::process::Abort;
 use std::test::Fail;
 
 // The first numbers of the documentation blocks 192.0.2.0/24 (RFC 5737) and 2001:db8::/32 (RFC 3849).
-pub(crate) const FOUR: u128 = 0xc000_0200;
+const FOUR: u128 = 0xc000_0200;
 
-pub(crate) const SIX: u128 = 0x2001_0db8 << 96;
+const SIX: u128 = 0x2001_0db8 << 96;
 
-pub(crate) fn range(space: Space, first: u128, last: u128) -> Result<Range, Fail> {
+fn range(space: Space, first: u128, last: u128) -> Result<Range, Fail> {
     Ok(Range::new(space, first, last).ok_or("a range")?)
 }
 
-pub(crate) fn number(space: Space, value: u128) -> Result<Number, Fail> {
+fn number(space: Space, value: u128) -> Result<Number, Fail> {
     Ok(Number::new(space, value).ok_or("a number")?)
 }
 
-pub(crate) fn handle(bytes: &[u8]) -> Result<Handle, Fail> {
+fn handle(bytes: &[u8]) -> Result<Handle, Fail> {
     Ok(Handle::read(bytes).ok_or("a handle")?)
 }
 
-pub(crate) fn host(bytes: &[u8]) -> Result<Host, Fail> {
+fn host(bytes: &[u8]) -> Result<Host, Fail> {
     Ok(Host::read(bytes).ok_or("a host")?)
 }
 
-pub(crate) fn servers(hosts: &[Host]) -> Result<Servers, Fail> {
+fn servers(hosts: &[Host]) -> Result<Servers, Fail> {
     Ok(Servers::new(hosts).ok_or("servers")?)
 }
 
-pub(crate) fn holder(
-    bytes: &[u8],
-    kind: Kind,
-    cc: &[u8],
-    name: &[u8],
-    email: &[u8],
-) -> Result<Holder, Fail> {
+fn holder(bytes: &[u8], kind: Kind, cc: &[u8], name: &[u8], email: &[u8]) -> Result<Holder, Fail> {
     Ok(Holder {
         handle: handle(bytes)?,
         kind,

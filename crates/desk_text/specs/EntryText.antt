@@ -5,8 +5,8 @@ use Rattle.num_range.specs.Range.{PlainRange}
 use Rattle.reg_entry.specs.declared.card.Card.{Card}
 use Rattle.reg_entry.specs.Days.{last_date, day_text}
 use Rattle.reg_entry.specs.Entry.{PlainEntry}
-use Rattle.desk_lang.specs.Vocabulary.{status_word}
-use Rattle.desk_lang.specs.RequestText.{range_word, request_text}
+use Rattle.desk_text.specs.Vocabulary.{status_word}
+use Rattle.desk_text.specs.RequestText.{range_word, request_text}
 
 -- the days of the card can be written with a year of four digits
 abbrev pub CardHasDates : Option Card → Type 0

@@ -1,7 +1,7 @@
 use Rattle.std.proofs.Common.{◌≡◌, ◌+◌, ◌*◌, ◌≤◌, ◌++◌, drop}
 use Rattle.arrayvec.specs.ArrayVec.{array_vec_len}
-use Rattle.desk_lang.specs.RequestText.{hosts_text}
-use Rattle.desk_lang.proofs.request_text.append_hosts.Given as goal
+use Rattle.desk_text.specs.RequestText.{hosts_text}
+use Rattle.desk_text.proofs.request_text.append_hosts.Given as goal
 
 abbrev pub invariant-loop-host : goal.invariant-loop-host
 invariant-loop-host g l = record {

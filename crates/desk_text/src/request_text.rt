@@ -2,8 +2,8 @@
 ghost use Rattle.std.specs.Prelude.{◌≡◌, ℕ, List, [], ◌+◌, ◌≤◌, ◌++◌, length, codes};
 ghost use Rattle.arrayvec.specs.ArrayVec.{array_vec_len};
 ghost use Rattle.addr_text.specs.Number.{number_text};
-ghost use Rattle.desk_lang.specs.Vocabulary.{amount_text, quoted};
-ghost use Rattle.desk_lang.specs.RequestText.{holder_text, hosts_text, range_word, request_text};
+ghost use Rattle.desk_text.specs.Vocabulary.{amount_text, quoted};
+ghost use Rattle.desk_text.specs.RequestText.{holder_text, hosts_text, range_word, request_text};
 
 use crate::append::{
     append, append_decimal, append_handle, append_next_handle, append_number, append_range,

@@ -2,8 +2,8 @@
 ghost use Rattle.std.specs.Prelude.{◌≡◌, [], ◌+◌, ◌≤◌, ◌++◌, length};
 ghost use Rattle.arrayvec.specs.ArrayVec.{array_vec_len};
 ghost use Rattle.reg_entry.specs.Days.{last_date};
-ghost use Rattle.desk_lang.specs.EntryText.{CardHasDates, cover_word, holder_word};
-ghost use Rattle.desk_lang.specs.EntryText.{day_word, card_text, entry_text};
+ghost use Rattle.desk_text.specs.EntryText.{CardHasDates, cover_word, holder_word};
+ghost use Rattle.desk_text.specs.EntryText.{day_word, card_text, entry_text};
 
 use crate::append::{append, append_day, append_decimal, append_range};
 use crate::request_text::append_request;

@@ -1,9 +1,13 @@
 -- The answer to the question what is known of a number: nothing, or the piece that holds it.
 use Rattle.std.specs.Prelude.{ℕ, List, ◌++◌, Option, None, Some, codes}
 use Rattle.reg_entry.specs.declared.piece.Piece.{Piece}
-use Rattle.desk_lang.specs.Vocabulary.{status_word}
-use Rattle.desk_lang.specs.ReplyText.{spaced_range}
-use Rattle.desk_lang.specs.EntryText.{day_word}
+use Rattle.desk_text.specs.Vocabulary.{status_word}
+use Rattle.desk_text.specs.ReplyText.{spaced_range}
+use Rattle.desk_text.specs.EntryText.{day_word}
+
+-- no piece holds the number
+abbrev pub none_text : List ℕ
+none_text = codes "none"
 
 -- a holder's handle
 abbrev pub handle_word : Option (List ℕ) → List ℕ

@@ -2,7 +2,7 @@
 ghost use Rattle.std.specs.Prelude.{◌≡◌, [], ◌+◌, ◌≤◌, ◌++◌};
 ghost use Rattle.arrayvec.specs.ArrayVec.{array_vec_len};
 ghost use Rattle.reg_entry.specs.Days.{last_date};
-ghost use Rattle.desk_lang.specs.ShownText.{handle_word, piece_text};
+ghost use Rattle.desk_text.specs.ShownText.{handle_word, none_text, piece_text};
 
 use crate::append::{append, append_handle, append_range};
 use crate::entry_text::append_card_day;
@@ -19,6 +19,15 @@ fn append_holder(handle: &Option<Handle>, out: &mut ArrayVec<u8, 256>)
         None => append(b"-", out),
         Some(handle) => append_handle(handle, out),
     }
+}
+
+/// Writes `none`, the answer where no piece holds the number.
+pub fn write_none(out: &mut ArrayVec<u8, 256>)
+    requires empty { out.old.items ≡ [] }
+    ensures text { out.new.items ≡ none_text }
+    ensures len { array_vec_len out.new ≤ 140 }
+{
+    append(b"none", out);
 }
 
 /// Writes `FIRST - LAST STATUS HOLDER DAY UNTIL` of a piece and its holder's handle, with `-` for no holder and no day.

@@ -3,8 +3,8 @@ ghost use Rattle.std.specs.Prelude.{◌≡◌, [], ◌+◌, ◌≤◌, ◌++◌,
 ghost use Rattle.arrayvec.specs.ArrayVec.{array_vec_len};
 ghost use Rattle.addr_text.specs.Number.{number_text};
 ghost use Rattle.reg_entry.specs.Days.{last_date, day_text};
-ghost use Rattle.desk_lang.specs.ReplyText.{RefusalHasDate, ReplyHasDate, accepted_cover, spaced_range};
-ghost use Rattle.desk_lang.specs.ReplyText.{refusal_name, refusal_values, reply_text};
+ghost use Rattle.desk_text.specs.ReplyText.{RefusalHasDate, ReplyHasDate, accepted_cover, spaced_range};
+ghost use Rattle.desk_text.specs.ReplyText.{refusal_name, refusal_values, reply_text};
 
 use crate::append::{
     append, append_day, append_decimal, append_next_handle, append_number, append_range,

@@ -7,7 +7,7 @@ use Rattle.reg_entry.specs.declared.holder.Holder.{Holder}
 use Rattle.reg_entry.specs.declared.request.Request.{Request}
 use Rattle.reg_entry.specs.declared.request.Request.TheVariants.{Receive, AddHolder, EditHolder, Delegate, Reserve, Unreserve, SubAssign, SubReturn, Return, Release, Split, Join, Transfer, SetReverse, ClearReverse}
 use Rattle.reg_entry.specs.Request.{status_of}
-use Rattle.desk_lang.specs.Vocabulary.{space_word, kind_word, status_word, amount_text, quoted}
+use Rattle.desk_text.specs.Vocabulary.{space_word, kind_word, status_word, amount_text, quoted}
 
 -- a range as one word: its first and its last number with `-` between them
 abbrev pub range_word : PlainRange → List ℕ
