@@ -136,12 +136,6 @@ address_is_number text n h = in_space n.space n.value h
     in_space Ipv4 value h = h
     in_space Ipv6 value h = h
 
-asn_spelled : (text : List ℕ) → IsSpelled (SpellsAsn text) (asn_of text)
-asn_spelled text =
-    spelled_map (IsDecimalUpTo (top_of Asn) text) (SpellsAsn text) (number_in Asn) _ (decimal_spelled (top_of Asn) text (omega arith))
-    (λ value h. (refl, h.0, h.1))
-    (λ none n h. none n.value (h.1, h.2))
-
 -- without `AS` at its front, which `asn` tells
 number_at : (text : List ℕ) (asn : Bool) → Decides asn (take 2 text ≡ codes "AS") → IsSpelled (SpellsNumber text) (if asn then asn_of (drop 2 text) else address_of text)
 number_at text true d =

@@ -67,16 +67,6 @@ fn read_length(word: &[u8]) -> Option<u32>
     }
 }
 
-fn has_size(space: Space, amount: u32) -> bool
-    ensures { result ≡ has_size space amount }
-{
-    match space {
-        Space::Asn => (1..=1024).contains(&amount),
-        Space::Ipv4 => amount <= 32,
-        Space::Ipv6 => (3..=128).contains(&amount),
-    }
-}
-
 /// A count of AS numbers, or the prefix length of a block.
 fn read_amount(space: Space, word: &[u8]) -> Option<u32>
     ensures value { result ≡ amount_of space word.now }
@@ -86,7 +76,7 @@ fn read_amount(space: Space, word: &[u8]) -> Option<u32>
         Space::Asn => read_decimal(word)?,
         Space::Ipv4 | Space::Ipv6 => read_length(word)?,
     };
-    if !has_size(space, amount) {
+    if !space.has_size(amount) {
         return None;
     }
     Some(amount)

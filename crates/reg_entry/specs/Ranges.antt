@@ -19,10 +19,6 @@ value_of_range rs r = option_map (λ p. p.1) (find (λ p. same_range p.0 r) rs)
 abbrev pub first_meeting : {T : Type 0} → List (PlainRange × T) → PlainRange → Option (PlainRange × T)
 first_meeting rs r = find (λ p. ranges_meet p.0 r) rs
 
--- the first range that this one lies inside
-abbrev pub enclosing : {T : Type 0} → List (PlainRange × T) → PlainRange → Option (PlainRange × T)
-enclosing rs r = find (λ p. lies_inside r p.0) rs
-
 -- the ranges that lie inside this one
 abbrev pub ranges_inside : {T : Type 0} → List (PlainRange × T) → PlainRange → List (PlainRange × T)
 ranges_inside rs r = filter (λ p. lies_inside p.0 r) rs

@@ -4,6 +4,9 @@ use Rattle.reg_entry.specs.declared.object.Key.TheVariants.{Org, Block, Sub, Cut
 use Rattle.reg_entry.proofs.Orders.{bytes_in_order}
 use Rattle.reg_entry.proofs.laws.keys_are_in_order.Goals as goal
 
+pub returns-clause-labels : goal.returns-clause-labels
+returns-clause-labels c = bytes_in_order
+
 pub returns-clause-handles : goal.returns-clause-handles
 returns-clause-handles c = bytes_in_order
 
