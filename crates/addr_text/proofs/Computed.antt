@@ -1,5 +1,5 @@
 -- The definitions that compute give what the grammar spells.
-use Rattle.std.proofs.Common.{◌≡◌, ◌≢◌, ℕ, ◌%◌, ◌<◌, ◌≤◌, ◌^◌, ◌-◌, Bool, true, false, ◌&&◌, ◌==◌, nat_le, List, [], ◌∷◌, ◌++◌, take, drop, All, codes, decimal, Option, None, Some, MatchOption, IfSome, IfNone, inl, inr, refl, sym, ap, ◌∙◌, subst, append_assoc, append-nil, length, arith, take-append-drop, lit≤, ne_eqb, ⊎_elim, ◌⊎◌, true≢false, if◌then◌else◌}
+use Rattle.std.proofs.Common.{◌≡◌, ◌≢◌, ℕ, ◌%◌, ◌<◌, ◌≤◌, ◌^◌, ◌-◌, Bool, true, false, ◌&&◌, ◌==◌, nat_le, List, [], ◌∷◌, ◌++◌, take, drop, All, codes, decimal, Option, None, Some, MatchOption, IfSome, IfNone, inl, inr, refl, sym, ap, ◌∙◌, subst, append_assoc, append-nil, length, arith, take-append-drop, lit≤, ne_eqb, ⊎_elim, ◌⊎◌, if◌then◌else◌}
 use Rattle.std.specs.Option.{option_map, option_and_then, option_or}
 use Rattle.std.specs.Int.{w32, w128, from_be_bytes}
 use Rattle.std.specs.Str.Parse.{digits_value}
@@ -23,7 +23,7 @@ use Rattle.num_range.specs.Number.{PlainNumber}
 use Rattle.num_range.specs.Range.{PlainRange}
 use Rattle.num_range.specs.Block.{block_size, block_of}
 use Rattle.addr_text.specs.Address.{SpellsIpv4, SpellsIpv6, SpellsAddressOf, SpellsAddress}
-use Rattle.addr_text.specs.Number.{SpellsAsn, SpellsNumberOf, SpellsNumber}
+use Rattle.addr_text.specs.Number.{SpellsNumberOf, SpellsNumber}
 use Rattle.addr_text.specs.Block.{SpellsBlock}
 use Rattle.addr_text.specs.Range.{IsOneNumber, IsWholeBlock, IsFirstToLast, SpellsRange}
 use Rattle.addr_text.specs.Reading.{IsSpelled, parted_at, decimal_up_to, number_in, ipv4_of, ipv6_of, address_of, asn_of, number_of, block_of_text, range_of_one, range_between, whole_block_of, first_to_last_of, range_of}
