@@ -1,9 +1,9 @@
 -- The word at the front of a text: what it depends on, and what stands behind it.
-use Rattle.std.proofs.Common.{◌≡◌, ◌≢◌, ℕ, suc, ◌+◌, ◌<◌, Bool, true, false, ◌==◌, ◌⊎◌, inl, inr, List, [], ◌∷◌, ◌++◌, length, take, drop, All, Option, None, Some, refl, sym, ap, ◌∙◌, subst, arith, append_assoc, append-nil, ne_eqb, length-append, true≢false, take-append-drop}
-use Rattle.std.specs.Prelude.{MatchOption, if◌then◌else◌}
+use Rattle.std.proofs.Common.{◌≡◌, ◌≢◌, ℕ, suc, ◌+◌, Bool, true, false, ◌==◌, ◌⊎◌, inl, inr, List, [], ◌∷◌, ◌++◌, length, take, drop, All, Option, None, Some, refl, sym, ap, ◌∙◌, subst, arith, append_assoc, length-append, true≢false, take-append-drop}
+use Rattle.std.specs.Prelude.{MatchOption}
 use Rattle.std.proofs.lemmas.Bool.{cases_Bool, cond-true, cond-false, eqb-true}
 use Rattle.std.proofs.lemmas.Option.{none-some}
-use Rattle.std.proofs.lemmas.List.Elements.{All-nil, All-cons, All-head, All-tail}
+use Rattle.std.proofs.lemmas.List.Elements.{All-nil, All-cons}
 use Rattle.std.specs.Option.{option_map}
 use Rattle.addr_text.specs.Reading.{parted_at}
 use Rattle.addr_text.proofs.Computed.{IsPartedAt, parted_first}
@@ -12,8 +12,8 @@ use Rattle.desk_lang.specs.declared.rest.Form.{Form}
 use Rattle.desk_lang.specs.declared.rest.Form.TheVariants.{Plain, Quoted, Broken}
 use Rattle.desk_text.specs.Vocabulary.{quoted}
 use Rattle.desk_lang.specs.Words.{PlainRest, PlainWord, is_blank, rest_at, without_blanks, word_length, plain_word, broken_word, ends_word, quoted_word, word_at, word_of, first_word}
-use Rattle.desk_lang.specs.Places.{spelled, front_word, BeginAlike, IsPlainText, IsQuotedText}
-use Rattle.desk_lang.proofs.ReadWords.{IsUnbroken, plain_at, quoted_at, plain_taken}
+use Rattle.desk_lang.specs.Places.{spelled, front_word, BeginAlike}
+use Rattle.desk_lang.proofs.ReadWords.{IsUnbroken, quoted_at, plain_taken}
 
 -- ---- blanks
 
@@ -65,17 +65,24 @@ nothing_at place (b ∷ blanks) h =
 abbrev pub word_of_form : Form → ℕ → List ℕ → ℕ → List ℕ → PlainWord
 word_of_form form place content size behind = record { place = place; form = form; bytes = content; behind = rest_at (place + size) behind }
 
+-- how many quotes a word of the form has
+abbrev pub quotes_of : Form → ℕ
+quotes_of Plain = 0
+quotes_of Quoted = 2
+quotes_of Broken = 0
+
 -- a whole word at the front of a text, which stays the word there wherever it ends
 pub record Whole (form : Form) (text : List ℕ) : Type 0 where
   pub content : List ℕ
   pub word : List ℕ
   pub behind : List ℕ
   pub parted : text ≡ word ++ behind
+  pub size : length word ≡ quotes_of form + length content
   pub ends : ends_word behind ≡ true
   pub bare : (other : List ℕ) → ends_word (word ++ other) ≡ false
   pub again : (place : ℕ) (other : List ℕ) → ends_word other ≡ true → word_at place (word ++ other) ≡ Some (word_of_form form place content (length word) other)
 
-run_parted : (text : List ℕ) → All IsUnbroken (take (word_length text) text) × (ends_word (drop (word_length text) text) ≡ true)
+pub run_parted : (text : List ℕ) → All IsUnbroken (take (word_length text) text) × (ends_word (drop (word_length text) text) ≡ true)
 run_parted [] = (All-nil IsUnbroken, refl)
 run_parted (b ∷ bs) =
     let P : ℕ → Type 0 = λ n. All IsUnbroken (take n (b ∷ bs)) × (ends_word (drop n (b ∷ bs)) ≡ true) in
@@ -101,6 +108,7 @@ plain_whole b bs plain other =
       word = b ∷ take n bs;
       behind = drop n bs;
       parted = ap (λ t. b ∷ t) (sym (take-append-drop n bs));
+      size = omega arith;
       ends = run.1;
       bare = λ _. other;
       again = λ place more e. plain_again place b (take n bs) more plain (All-cons IsUnbroken b (take n bs) other run.0) e;
@@ -128,6 +136,7 @@ module _ (bs : List ℕ) where
               word = quoted parts.0;
               behind = parts.1;
               parted = ap (λ t. 34 ∷ t) (is.0 ∙ sym (append_assoc parts.0 (34 ∷ []) parts.1));
+              size = omega (arith, length-append parts.0 (34 ∷ []));
               ends = ends;
               bare = λ _. refl;
               again = λ place other e. quoted_again place parts.0 other is.1 e;

@@ -8,4 +8,6 @@ pub mod ReadEntries
 pub mod FrontWords
 pub mod WrongPlaces
 pub mod WrongLines
+pub mod NeededRoom
 pub mod NextEntries
+mod PlaceRows

@@ -3,21 +3,19 @@ use Rattle.std.proofs.Common.{◌≡◌, ℕ, ◌≤◌, true, false, ◌&&◌, 
 use Rattle.std.specs.Prelude.{IfSome}
 use Rattle.std.specs.Option.{option_map, option_map_or}
 use Rattle.std.proofs.lemmas.Bool.{and_parts, leb-true, false≢true}
-use Rattle.num_range.specs.declared.space.Space.{Space}
 use Rattle.num_range.specs.Range.{PlainRange}
 use Rattle.reg_entry.specs.declared.card.Card.{Card}
 use Rattle.reg_entry.specs.declared.piece.Piece.{Piece}
 use Rattle.reg_entry.specs.declared.request.Request.{Request}
 use Rattle.reg_entry.specs.declared.request.Request.TheVariants.{Receive, AddHolder, EditHolder, Delegate, Reserve, Unreserve, SubAssign, SubReturn, Return, Release, Split, Join, Transfer, SetReverse, ClearReverse}
-use Rattle.reg_entry.specs.Blocks.{alignment}
 use Rattle.reg_entry.specs.Covers.{first_number, holder_card, cover_for, card_for}
 use Rattle.reg_entry.specs.Days.{last_date}
 use Rattle.reg_entry.specs.Entry.{PlainEntry}
 use Rattle.reg_entry.specs.Holders.{holder_number}
-use Rattle.reg_entry.specs.Next.{is_free_block, start_of, block_may_be, until_of, until_may_be, day_may_be, IsNextEntry}
+use Rattle.reg_entry.specs.Next.{is_free_block, start_of, block_may_be, until_of, until_may_be, IsNextEntry}
 use Rattle.reg_entry.specs.Register.{Register, register_pieces, piece_of}
-use Rattle.reg_entry.specs.Request.{status_of, amount_size, has_size, IsSizedRequest}
-use Rattle.reg_laws.proofs.NextFacts.{NextFacts, next_facts}
+use Rattle.reg_entry.specs.Request.{amount_size, has_size, IsSizedRequest}
+use Rattle.reg_laws.proofs.NextFacts.{next_facts}
 use Rattle.desk_text.specs.EntryText.{CardHasDates}
 use Rattle.desk_lang.specs.EntryReading.{IsHolderNumber, IsWritableCard}
 

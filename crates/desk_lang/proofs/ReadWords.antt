@@ -3,7 +3,6 @@ use Rattle.std.proofs.Common.{◌≡◌, ◌≢◌, ℕ, suc, ◌+◌, ◌<◌, 
 use Rattle.std.proofs.lemmas.Bool.{cond-true, cond-false}
 use Rattle.std.proofs.lemmas.List.Elements.{All-head, All-tail, All-weaker}
 use Rattle.std.proofs.Math.Seq.{take-append_seam, drop-append_seam}
-use Rattle.std.specs.Option.{option_map}
 use Rattle.addr_text.specs.Reading.{parted_at}
 use Rattle.addr_text.proofs.Separators.{parted_here}
 use Rattle.desk_lang.specs.declared.rest.Form.TheVariants.{Plain, Quoted}

@@ -1,16 +1,14 @@
 -- Where the lines of the desk language go wrong. Each has a shortest end that can be written behind any word of it.
-use Rattle.std.proofs.Common.{◌≡◌, ◌≢◌, ℕ, zero, suc, inl, inr, ◌+◌, ◌<◌, ◌≤◌, Bool, true, false, ◌==◌, cond, List, [], ◌∷◌, ◌++◌, length, All, Option, None, Some, Result, Ok, Err, codes, refl, sym, ap, ◌∙◌, subst, arith, append-nil, length-append, length-take, take, drop, take-append-drop, lt-ltb, le-ltb, ne_eqb}
+use Rattle.std.proofs.Common.{◌≡◌, ◌≢◌, ℕ, zero, suc, inl, inr, ◌+◌, ◌<◌, ◌≤◌, Bool, true, false, List, [], ◌∷◌, ◌++◌, length, Option, None, Some, Result, Ok, Err, codes, refl, sym, ap, ◌∙◌, subst, arith, append-nil, length-append, length-take, take, drop, take-append-drop, lt-ltb, le-ltb, ne_eqb}
 use Rattle.std.specs.Prelude.{IsOk, nat_lt, if◌then◌else◌}
 use Rattle.std.proofs.lemmas.Bool.{cases_Bool, cases_lt, cond-true, cond-false}
 use Rattle.std.proofs.Math.Seq.{take-append_seam, drop-append_seam}
 use Rattle.std.proofs.lemmas.List.Elements.{All-nil, All-cons, All-head, All-weaker}
 use Rattle.std.proofs.lemmas.Option.{none-some}
 use Rattle.std.specs.Option.{option_map, IsSome}
-use Rattle.std.specs.Net.Reader.{read_ipv4, read_octet, read_number, read_ipv6, read_segments, read_segment}
 use Rattle.std.specs.Fmt.{digits}
 use Rattle.num_range.specs.declared.space.Space.{Space}
 use Rattle.num_range.specs.declared.space.Space.TheVariants.{Asn, Ipv4, Ipv6}
-use Rattle.num_range.specs.Number.{PlainNumber}
 use Rattle.num_range.specs.Range.{PlainRange}
 use Rattle.addr_text.specs.Reading.{number_of, range_of}
 use Rattle.reg_entry.specs.declared.holder.Holder.{Holder}
@@ -20,7 +18,7 @@ use Rattle.reg_entry.specs.declared.request.Delegation.TheVariants.{Assign}
 use Rattle.reg_entry.specs.declared.request.Request.{Request as ARequest}
 use Rattle.reg_entry.specs.declared.request.Request.TheVariants.{Receive, AddHolder, EditHolder, Delegate, Reserve, Unreserve, SubAssign, SubReturn, Return, Release, Split, Join, Transfer, SetReverse, ClearReverse}
 use Rattle.reg_entry.specs.Cc.{is_cc}
-use Rattle.reg_entry.specs.Days.{last_date, day_text, day_of_text}
+use Rattle.reg_entry.specs.Days.{day_text, day_of_text}
 use Rattle.reg_entry.specs.Handle.{is_handle}
 use Rattle.reg_entry.specs.Host.{is_host}
 use Rattle.reg_entry.specs.Name.{is_name}
@@ -398,10 +396,10 @@ line_wrong =
 -- ---- what is said of all lines
 
 -- a line of at most 1,024 bytes is read from its first word on
-short_line : (text : List ℕ) → length text ≤ 1024 → line_of text ≡ line_from (rest_at 1 text)
+pub short_line : (text : List ℕ) → length text ≤ 1024 → line_of text ≡ line_from (rest_at 1 text)
 short_line text few = cond-false (nat_lt 1024 (length text)) (Err (malformed_at 1025)) (line_from (rest_at 1 text)) (le-ltb 1024 (length text) few)
 
-long_line : (text : List ℕ) → 1024 < length text → line_of text ≡ Err (malformed_at 1025)
+pub long_line : (text : List ℕ) → 1024 < length text → line_of text ≡ Err (malformed_at 1025)
 long_line text many = cond-true (nat_lt 1024 (length text)) (Err (malformed_at 1025)) (line_from (rest_at 1 text)) (lt-ltb 1024 (length text) many)
 
 fault_of : (r : Result Line Malformed) (a b : Malformed) → r ≡ Err a → r ≡ Err b → a ≡ b

@@ -1,11 +1,9 @@
 -- Where a reader goes wrong, word by word: whatever stands behind the word there, it does, and what stands before can go on.
-use Rattle.std.proofs.Common.{◌≡◌, ◌≢◌, ℕ, ◌+◌, ◌<◌, ◌≤◌, Bool, true, false, ◌⊎◌, inl, inr, List, [], ◌∷◌, ◌++◌, length, All, Option, None, Some, Result, Ok, Err, refl, sym, ap, ◌∙◌, subst, arith, append_assoc, append-nil, length-append, true≢false}
+use Rattle.std.proofs.Common.{◌≡◌, ℕ, ◌+◌, ◌≤◌, true, false, ◌⊎◌, inl, inr, List, [], ◌∷◌, ◌++◌, length, Option, None, Some, Result, Ok, Err, refl, sym, ap, ◌∙◌, subst, arith, append_assoc, append-nil, length-append}
 use Rattle.std.specs.Prelude.{IsOk}
 use Rattle.std.proofs.lemmas.Bool.{cases_Bool, cond-true, cond-false}
-use Rattle.std.proofs.lemmas.Option.{none-some}
-use Rattle.std.specs.Option.{option_map}
 use Rattle.desk_lang.specs.declared.rest.Form.{Form}
-use Rattle.desk_lang.specs.declared.rest.Form.TheVariants.{Plain, Quoted, Broken}
+use Rattle.desk_lang.specs.declared.rest.Form.TheVariants.{Plain}
 use Rattle.desk_lang.specs.declared.rest.Malformed.{Malformed}
 use Rattle.desk_lang.specs.Words.{PlainRest, PlainWord, rest_at, ends_word, word_at, first_word, end_place, same_form, word_in, value_of_word, next_value, malformed_at, ended, at_end, ◌>>=◌}
 use Rattle.desk_lang.specs.Places.{front_word, BeginAlike}

@@ -1,5 +1,5 @@
 //! What holds of all requests, entries and lines, proved as the contracts of functions that do nothing.
-ghost use Rattle.std.specs.Prelude.{◌≡◌, ◌+◌, ◌≤◌, ◌++◌, true, ℕ, List, length, Ok, Err, IfOk, IsOk};
+ghost use Rattle.std.specs.Prelude.{◌≡◌, ◌+◌, ◌≤◌, ◌++◌, true, codes, ℕ, List, length, Ok, Err, IfOk, IsOk};
 ghost use Rattle.reg_entry.specs.declared.request.Request.{Request};
 ghost use Rattle.desk_lang.specs.declared.line.Line.TheVariants as lines;
 ghost use Rattle.desk_text.specs.RequestText.{request_text};
@@ -50,11 +50,12 @@ pub fn wrong_whatever_follows()
 {}
 
 /// What stands before the place where a line goes wrong begins a line of the desk language, where there is room for 17
-/// bytes more, as behind `holder` there has to be.
-#[tactic(auto, using(crate::proofs::WrongLines::place_completed))]
+/// bytes more. There has to be: behind `holder` no line has fewer.
+#[tactic(auto, using(crate::proofs::WrongLines::place_completed, crate::proofs::NeededRoom::holder_room))]
 pub fn begins_a_line()
-    ensures { (front text : List ℕ)
+    ensures enough { (front text : List ℕ)
         → line_of (front ++ text) ≡ Err (malformed_at (length front + 1))
         → length front + 17 ≤ 1024
         → (more : List ℕ) × (length more ≤ 17) × IsOk (line_of (front ++ more)) }
+    ensures needed { (more : List ℕ) → IsOk (line_of (codes "holder" ++ more)) → 17 ≤ length more }
 {}
