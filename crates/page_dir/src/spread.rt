@@ -1,6 +1,6 @@
 ghost use Rattle.std.specs.Prelude.{◌≡◌, ℕ, ◌+◌, ◌<◌, ◌≤◌, [], length, IfOk, slice_set};
 ghost use Rattle.std.specs.List.{insert, remove};
-ghost use Rattle.page_dir.specs.Pages.{page_of};
+ghost use Rattle.page_dir.specs.Pages.{AreDistinct, page_of};
 ghost use Rattle.page_dir.specs.Splices.{spliced};
 ghost use Rattle.page_dir.specs.Spread.{pages_in};
 
@@ -58,7 +58,8 @@ impl<T: Copy> Spread<T> {
     }
 
     pub(crate) fn order(&self) -> &Vec<Slot>
-        ensures { result.now.items ≡ self.now.order }
+        ensures slots { result.now.items ≡ self.now.order }
+        ensures distinct { AreDistinct self.now.order }
     {
         &self.order
     }

@@ -8,19 +8,13 @@ use Rattle.std.proofs.lemmas.List.Sums.{sum_by_push, sum_by-set, count_by-le-len
 use Rattle.std.proofs.lemmas.Option.{get_or_from_slice_get, slice_get_within, slice_get_past}
 use Rattle.slot_pool.specs.Cells.{spare}
 use Rattle.slot_pool.specs.Stack.{times, vacancy, IsStack}
+use Rattle.slot_pool.proofs.Times.{times_push_same, times_push_other}
 use Rattle.slot_pool.proofs.Places.{slice_get-set_same, slice_get-set_other, slice_get-push_same, slice_get-push_other}
 
 vacant_from_vacancy : {T : Type 0} (o : Option (Option T)) → 0 < vacancy o → o ≡ Some None
 vacant_from_vacancy None h = absurd (omega arith)
 vacant_from_vacancy (Some None) h = refl
 vacant_from_vacancy (Some (Some v)) h = absurd (omega arith)
-
-times_push_same : (slots : List ℕ) (slot : ℕ) → times slot (slots ++ slot ∷ []) ≡ times slot slots + 1
-times_push_same slots slot = sum_by_push (λ s. cond (nat_eq slot s) 1 0) slots slot ∙ ap (λ b. times slot slots + cond b 1 0) (eq-eqb slot slot refl)
-
-times_push_other : (slots : List ℕ) (slot k : ℕ) → k ≢ slot → times k (slots ++ slot ∷ []) ≡ times k slots
-times_push_other slots slot k ne =
-    sum_by_push (λ s. cond (nat_eq k s) 1 0) slots slot ∙ ap (λ b. times k slots + cond b 1 0) (ne_eqb k slot ne) ∙ omega arith
 
 -- the last of the waiting slots is vacant
 pub last_is_vacant : {T : Type 0} {cells : List (Option T)} {room : ℕ} (all waiting : List ℕ) (slot : ℕ)
