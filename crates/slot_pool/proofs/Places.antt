@@ -28,6 +28,11 @@ held_same cells slot cell h = rw (slice_get-set_same cells slot cell h) refl
 pub held_other : {T : Type 0} (cells : List (Option T)) (slot k : ℕ) (cell : Option T) → k ≢ slot → held (set cells slot cell) k ≡ held cells k
 held_other cells slot k cell ne = rw (slice_get-set_other cells slot k cell ne) refl
 
+-- a value placed at a slot
+pub placed : {T : Type 0} (cells : List (Option T)) (slot : ℕ) (v : T) → slice_get cells slot ≡ Some None
+    → (after : List (Option T)) → after ≡ set cells slot (Some v) → held after slot ≡ Some v
+placed cells slot v vacant after is = ap (λ cs. held cs slot) is ∙ held_same cells slot (Some v) (slice_get_within cells slot None vacant)
+
 -- the value at a live slot
 pub value_at_live : {T : Type 0} (cells : List (Option T)) (slot : ℕ) → IsLive cells slot → (v : T) × (slice_get cells slot ≡ Some (Some v))
 value_at_live [] slot h = let no : ⊥ = cc in absurd no
@@ -56,6 +61,10 @@ slice_get-push_other (y ∷ ys) x zero ne = refl
 slice_get-push_other (y ∷ ys) x (suc k) ne = slice_get-push_other ys x k (λ e. ne (ap (λ n. suc n) e))
 
 -- the same, where cells and slot go by other names
+pub cell_there : {T : Type 0} (cells seen : List (Option T)) (slot place : ℕ) (cell : Option T)
+    → cells ≡ seen → slot ≡ place → slice_get cells slot ≡ Some cell → slice_get seen place ≡ Some cell
+cell_there cells seen slot place cell same_cells same_slot at = cc
+
 pub held_there : {T : Type 0} (cells seen : List (Option T)) (slot place : ℕ) (v : T)
     → cells ≡ seen → slot ≡ place → slice_get cells slot ≡ Some (Some v) → held seen place ≡ Some v
 held_there cells seen slot place v same_cells same_slot at = rw (← same_cells, ← same_slot, at) refl
