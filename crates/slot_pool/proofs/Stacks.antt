@@ -1,16 +1,14 @@
 -- The stack of vacant slots while slots are taken and given back.
-use Rattle.std.proofs.Common.{◌≡◌, ◌≢◌, ℕ, ◌+◌, ◌<◌, ◌≤◌, ◌^◌, cond, List, [], ◌∷◌, ◌++◌, Option, Some, None, length, set, refl, ap, sym, ◌∙◌, arith, length-set, length-append, inl, inr, subst}
-use Rattle.std.specs.Prelude.{nat_eq}
+use Rattle.std.proofs.Common.{◌≡◌, ◌≢◌, ℕ, ◌+◌, ◌<◌, ◌≤◌, cond, List, [], ◌∷◌, ◌++◌, Option, Some, None, length, set, refl, ap, sym, ◌∙◌, arith, length-set, length-append, inl, inr, subst}
 use Rattle.std.specs.List.{slice_get}
 use Rattle.std.specs.Option.{is_none}
-use Rattle.std.proofs.lemmas.Bool.{cases_eq, eq-eqb, ne_eqb}
+use Rattle.std.proofs.lemmas.Bool.{cases_eq}
 use Rattle.std.proofs.lemmas.List.{append-nil}
-use Rattle.std.proofs.lemmas.List.Sums.{sum_by_push, sum_by-set, count_by-le-length}
-use Rattle.std.proofs.lemmas.Option.{get_or_from_slice_get, slice_get_within, slice_get_past}
-use Rattle.slot_pool.specs.Cells.{spare}
+use Rattle.std.proofs.lemmas.List.Sums.{sum_by_push, count_by-le-length}
+use Rattle.std.proofs.lemmas.Option.{slice_get_within, slice_get_past}
 use Rattle.slot_pool.specs.Stack.{times, vacancy, IsStack, IsPool}
 use Rattle.slot_pool.proofs.Times.{times_push_same, times_push_other}
-use Rattle.slot_pool.proofs.Places.{slice_get-set_same, slice_get-set_other, slice_get-push_same, slice_get-push_other}
+use Rattle.slot_pool.proofs.Places.{spare_set, slice_get-set_same, slice_get-set_other, slice_get-push_same, slice_get-push_other}
 
 vacant_from_vacancy : {T : Type 0} (o : Option (Option T)) → 0 < vacancy o → o ≡ Some None
 vacant_from_vacancy None h = absurd (omega arith)
@@ -23,13 +21,6 @@ pub last_is_vacant : {T : Type 0} {cells : List (Option T)} {room : ℕ} (all wa
 last_is_vacant {T} {cells} all waiting slot is s =
     let e : times slot all ≡ times slot waiting + 1 = ap (times slot) is ∙ times_push_same waiting slot in
     vacant_from_vacancy (slice_get cells slot) (omega (arith, s.each slot, e))
-
-pub spare_set : {T : Type 0} (cells : List (Option T)) (slot : ℕ) (before after : Option T) → slice_get cells slot ≡ Some before
-    → spare (set cells slot after) + cond (is_none before) 1 0 ≡ spare cells + cond (is_none after) 1 0
-spare_set cells slot before after e =
-    let at = get_or_from_slice_get cells slot before before e in
-    subst (λ c. spare (set cells slot after) + cond (is_none c) 1 0 ≡ spare cells + cond (is_none after) 1 0) at
-    (sum_by-set (λ (c : Option _). cond (is_none c) 1 0) cells slot after before (slice_get_within cells slot before e))
 
 -- the stack and the cells after one write, where the count for each other slot stays
 written_over : {T : Type 0} (cells : List (Option T)) (before after : List ℕ) (room slot : ℕ) (cell cell' : Option T)

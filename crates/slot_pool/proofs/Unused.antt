@@ -1,14 +1,13 @@
 -- The cells that a pool uses, and those behind them that it never used.
-use Rattle.std.proofs.Common.{◌≡◌, ℕ, suc, zero, ◌+◌, ◌-◌, ◌<◌, ◌≤◌, cond, List, [], ◌∷◌, ◌++◌, Option, Some, None, length, set, replicate, refl, ap, sym, ◌∙◌, arith, length-set, length-append, append_assoc, inl, inr, subst}
+use Rattle.std.proofs.Common.{◌≡◌, ℕ, suc, zero, ◌+◌, ◌-◌, ◌<◌, cond, List, [], ◌∷◌, ◌++◌, Option, Some, None, length, set, replicate, refl, ap, sym, ◌∙◌, arith, length-set, append_assoc}
 use Rattle.std.specs.List.{slice_get}
 use Rattle.std.specs.Option.{is_none}
 use Rattle.std.proofs.lemmas.List.{set-append_left, length_push}
 use Rattle.std.proofs.lemmas.List.Sums.{sum_by-append}
-use Rattle.std.proofs.lemmas.List.Folds.{sum_by-replicate}
 use Rattle.std.proofs.Math.Seq.{set-append_seam}
 use Rattle.slot_pool.specs.Cells.{held, spare, IsLive}
 use Rattle.slot_pool.specs.Stack.{with_unused}
-use Rattle.slot_pool.proofs.Places.{live_within}
+use Rattle.slot_pool.proofs.Places.{none_held, spare_vacant}
 
 slice_get-append_left : {X : Type 0} (xs ys : List X) (i : ℕ) → i < length xs → slice_get (xs ++ ys) i ≡ slice_get xs i
 slice_get-append_left [] ys i h = absurd (omega arith)
@@ -18,11 +17,6 @@ slice_get-append_left (x ∷ xs) ys (suc i) h = slice_get-append_left xs ys i (o
 slice_get_seam : {X : Type 0} (xs : List X) (y : X) (ys : List X) → slice_get (xs ++ y ∷ ys) (length xs) ≡ Some y
 slice_get_seam [] y ys = refl
 slice_get_seam (x ∷ xs) y ys = slice_get_seam xs y ys
-
-none_held : {T : Type 0} (n k : ℕ) → ◌≡◌ {A = Option T} (held (replicate n None) k) None
-none_held zero k = refl
-none_held (suc n) zero = refl
-none_held (suc n) (suc k) = none_held n k
 
 -- nothing is held behind the used cells
 held_in_used : {T : Type 0} (used : List (Option T)) (n slot : ℕ) → held (used ++ replicate n None) slot ≡ held used slot
@@ -53,7 +47,7 @@ pub spare_with_unused : {T : Type 0} (used : List (Option T)) (room : ℕ) → s
 spare_with_unused {T} used room =
     let vacant : Option T → ℕ = λ cell. cond (is_none cell) 1 0 in
     sum_by-append vacant used (replicate (room - length used) None)
-    ∙ ap (λ n. spare used + n) (sum_by-replicate vacant (room - length used) None ∙ omega arith)
+    ∙ ap (λ n. spare used + n) (spare_vacant T (room - length used))
 
 -- the first cell that was never used
 module _ {T : Type 0} (used : List (Option T)) (room : ℕ) (h : length used < room) where

@@ -1,7 +1,7 @@
-use Rattle.std.proofs.Common.{◌≡◌, ◌∙◌, Some, None, ap, sym, refl, arith}
+use Rattle.std.proofs.Common.{◌∙◌, Some, None, ap, sym, refl, arith}
 use Rattle.slot_pool.specs.Cells.{spare}
-use Rattle.slot_pool.proofs.Places.{cell_read, cell_there, held_there, set_there, live_within}
-use Rattle.slot_pool.proofs.Stacks.{pool_given, stack_has_room, spare_set}
+use Rattle.slot_pool.proofs.Places.{spare_set, cell_read, cell_there, held_there, set_there, live_within}
+use Rattle.slot_pool.proofs.Stacks.{pool_given, stack_has_room}
 use Rattle.slot_pool.proofs.Unused.{live_by_view, used_there, set_used}
 use Rattle.slot_pool.proofs.pool.Pool.give.Goals as goal
 

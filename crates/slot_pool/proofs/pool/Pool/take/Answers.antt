@@ -1,8 +1,8 @@
-use Rattle.std.proofs.Common.{◌≡◌, ◌∙◌, ◌+◌, arith, ◌++◌, ◌∷◌, [], None, Some, length, ◌<◌, ap, sym, refl}
+use Rattle.std.proofs.Common.{◌∙◌, ◌+◌, arith, ◌++◌, ◌∷◌, [], None, Some, length, ◌<◌, ap, sym}
 use Rattle.std.proofs.lemmas.Option.{slice_get_within}
 use Rattle.slot_pool.specs.Cells.{spare}
-use Rattle.slot_pool.proofs.Places.{cell_there, placed, set_there}
-use Rattle.slot_pool.proofs.Stacks.{last_is_vacant, pool_taken, pool_begun, spare_set}
+use Rattle.slot_pool.proofs.Places.{spare_set, cell_there, placed, set_there}
+use Rattle.slot_pool.proofs.Stacks.{last_is_vacant, pool_taken, pool_begun}
 use Rattle.slot_pool.proofs.Unused.{used_there, set_used, next_is_vacant, set_next}
 use Rattle.slot_pool.proofs.pool.Pool.take.Goals as goal
 
