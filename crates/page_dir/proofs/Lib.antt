@@ -1,0 +1,2 @@
+mod Spreads
+pub mod Splicing
