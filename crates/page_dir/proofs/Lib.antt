@@ -1,2 +1,4 @@
+mod Joining
 mod Spreads
 pub mod Splicing
+mod Enough
