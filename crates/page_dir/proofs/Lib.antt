@@ -1,4 +1,6 @@
+mod Enough
+mod Halving
 mod Joining
+mod Places
 mod Spreads
 pub mod Splicing
-mod Enough

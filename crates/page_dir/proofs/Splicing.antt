@@ -1,6 +1,7 @@
 -- A splice of a list, by lengths and places. For callers too.
 use Rattle.std.proofs.Common.{◌≡◌, ℕ, zero, suc, ◌+◌, ◌-◌, ◌<◌, ◌≤◌, List, [], ◌∷◌, ◌++◌, length, take, drop, refl, ap, sym, ◌∙◌, arith, length-append, length-take-le, length-drop, append_assoc, zero-add, suc-add}
 use Rattle.std.proofs.lemmas.List.{take_at, drop_at, take-append-le, drop-append-le, append-nil, drop_all, take_all, drop-drop}
+use Rattle.std.specs.List.{slice_get}
 use Rattle.page_dir.specs.Splices.{spliced}
 
 pub length-spliced : {T : Type 0} (at n : ℕ) (new ts : List T) → at + n ≤ length ts → length (spliced at n new ts) + n ≡ length ts + length new
@@ -44,3 +45,13 @@ spliced_end new ts at e =
 -- all from a place on goes
 pub spliced_tail : {T : Type 0} (ts : List T) (at n : ℕ) → at + n ≡ length ts → spliced at n [] ts ≡ take at ts
 spliced_tail ts at n e = ap (λ xs. take at ts ++ xs) (drop_all (at + n) ts (omega arith)) ∙ append-nil (take at ts)
+
+-- what stands at a place of two lists
+pub slice_get-append_left : {T : Type 0} (xs ys : List T) (i : ℕ) → i < length xs → slice_get (xs ++ ys) i ≡ slice_get xs i
+slice_get-append_left [] ys i h = absurd (omega arith)
+slice_get-append_left (x ∷ xs) ys zero h = refl
+slice_get-append_left (x ∷ xs) ys (suc i) h = slice_get-append_left xs ys i (omega arith)
+
+pub slice_get-append_right : {T : Type 0} (xs ys : List T) (i : ℕ) → slice_get (xs ++ ys) (length xs + i) ≡ slice_get ys i
+slice_get-append_right [] ys i = ap (slice_get ys) (zero-add i)
+slice_get-append_right (x ∷ xs) ys i = ap (slice_get (x ∷ (xs ++ ys))) (suc-add (length xs) i) ∙ slice_get-append_right xs ys i
