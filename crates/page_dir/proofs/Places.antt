@@ -65,17 +65,21 @@ module _ {T : Type 0} (test : T → Bool) (ps : List (List T)) (filled : (i : �
   not_both [] p f = p
   not_both (t ∷ ts) p f = let e : true ≡ false = sym p ∙ f in cc
 
+  pub place_is_inside : (page at : ℕ) → page < length ps → PassesAt test (page_of ps page) 0
+      → IsTurn (PassesAt test (page_of ps page)) (FailsAt test (page_of ps page)) (length (page_of ps page)) at → 0 < at
+  place_is_inside page at h first turn = elim (cases_lt 0 at) [
+    inl lt ↦ lt |
+    inr le ↦ (let zero_at : at ≡ 0 = omega arith in let f = filled page h in
+      absurd (not_both (page_of ps page) first (subst (FailsAt test (page_of ps page)) zero_at (turn.after (omega arith)))))
+  ]
+
   -- the place lies in the last page that begins before it
   pub place_in_page : (page at : ℕ) → page < length ps → IsDown test (joined ps) → PassesAt test (page_of ps page) 0
       → (page + 1 < length ps → FailsAt test (page_of ps (page + 1)) 0)
       → IsTurn (PassesAt test (page_of ps page)) (FailsAt test (page_of ps page)) (length (page_of ps page)) at
       → start ps page + at ≡ prefix_len test (joined ps)
   place_in_page page at h down first next turn =
-      let more : 0 < at = (elim (cases_lt 0 at) [
-        inl lt ↦ lt |
-        inr le ↦ (let zero_at : at ≡ 0 = omega arith in
-          absurd (not_both (page_of ps page) first (subst (FailsAt test (page_of ps page)) zero_at (turn.after (let f = filled page h in omega arith)))))
-      ]) in
+      let more = place_is_inside page at h first turn in
       let whole = ap length (joined-split ps (page + 1)) in
       let sum = length-append (joined (take (page + 1) ps)) (joined (drop (page + 1) ps)) in
       let end = start_next ps page h in

@@ -3,7 +3,7 @@ use Rattle.page_dir.specs.Pages.{joined, page_of}
 use Rattle.page_dir.specs.Searching.{FailsAt, IsTurn, PassesAt, stands_before}
 use Rattle.page_dir.specs.Spread.{pages_in}
 use Rattle.page_dir.proofs.Halving.{both_halved}
-use Rattle.page_dir.proofs.Places.{place_at_front, place_in_page, down_from_rises, pages-le-items}
+use Rattle.page_dir.proofs.Places.{place_at_front, place_in_page, place_is_inside, down_from_rises, pages-le-items}
 use Rattle.page_dir.proofs.locating.locate.Goals as goal
 
 pub returns-then-pages-eq0-clause-before : goal.returns-then-pages-eq0-clause-before
@@ -36,3 +36,12 @@ returns-clause-cost g c =
     both_halved c.args.steps.now c.pages_before-pages.new.steps c.pairs_before-at.new.steps (length (pages_in c.args.spread.now)) (length c.page.result.now)
     (length (joined (pages_in c.args.spread.now))) c.pages_before-pages.ensures.counted c.pairs_before-at.ensures.counted
     c.pages_before-pages.ensures.cost c.pairs_before-at.ensures.cost c.page.ensures.within few
+
+pub returns-clause-front : goal.returns-clause-front
+returns-clause-front g c = λ none.
+    let ps = pages_in c.args.spread.now in
+    let pages = c.pages_before-pages.result in
+    let turn = c.pages_before-pages.ensures.turn in
+    let more = place_is_inside (λ p. stands_before g.K.Ord.cmp c.args.side c.args.key.now p.0) ps (λ i h. (c.requires.enough i h).filled) (pages - 1) c.pairs_before-at.result (omega (arith, turn.within)) (turn.before (omega arith))
+      (subst (λ page. IsTurn (PassesAt (λ p. stands_before g.K.Ord.cmp c.args.side c.args.key.now p.0) page) (FailsAt (λ p. stands_before g.K.Ord.cmp c.args.side c.args.key.now p.0) page) (length page) c.pairs_before-at.result) c.page.ensures.items c.pairs_before-at.ensures.turn) in
+    absurd (omega (arith, more, none))
