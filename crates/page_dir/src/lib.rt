@@ -3,6 +3,7 @@
 #![tactic(auto)]
 
 mod directory;
+pub mod laws;
 mod locating;
 mod page;
 mod replacing;
