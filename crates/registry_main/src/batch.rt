@@ -45,7 +45,11 @@ fn answer_line<K: Sink>(session: &mut Session, line: &[u8], out: &mut K) -> Resu
 }
 
 /// Answers the line that is kept, whose end has come, and begins the next.
-fn end_line<K: Sink>(session: &mut Session, line: &mut LineBuffer, out: &mut K) -> Result<(), Failed>
+fn end_line<K: Sink>(
+    session: &mut Session,
+    line: &mut LineBuffer,
+    out: &mut K,
+) -> Result<(), Failed>
     ensures ok { OnOk result ((tail : List ℕ) →
         Keeps (with_replies (K.written out.old) session.old (line.old ++ 10 ∷ tail)) (with_replies (K.written out.new) session.new tail)) }
     ensures empty { OnOk result (line.new ≡ []) }
