@@ -218,3 +218,64 @@ fn random_splices(rt: HostRuntime) -> Result<(), Fail> {
     drive::<[u8; 8]>(&rt, rt.alloc(), 2_000)?;
     Ok(())
 }
+
+/// From which number on, how many pairs go, how many come with the numbers from there on, whether that may be, and how many
+/// pages and pairs there are then. Room for 200; a dash where more than one count of pages is right.
+const SPLICES: &str = "\
+1000 0 64 yes 1 64
+1064 0 1 yes 2 65
+1064 1 0 yes 1 64
+999 0 1 yes 2 65
+999 1 0 yes 1 64
+1000 65 0 no 1 64
+1010 0 1 no 1 64
+1010 0 0 yes 1 64
+1010 54 54 yes 1 64
+1000 64 0 yes 0 0
+1000 1 0 no 0 0
+1000 0 0 yes 0 0
+0 0 200 yes - 200
+500 0 1 no - 200
+100 1 1 yes - 200
+3 150 100 yes - 150
+5 1 52 no - 150
+0 150 65 yes 2 65
+0 1 0 yes 1 64
+0 65 0 no 1 64
+1 64 0 yes 0 0
+7 0 1 yes 1 1
+7 1 0 yes 0 0
+";
+
+/// One row of the splices: whether it went as it says.
+fn goes_as_told(alloc: Global, dir: &mut Listed<u128, u64>, row: &str) -> Result<bool, Fail> {
+    let mut words = row.split_whitespace();
+    let mut next = || words.next().ok_or("a word too few");
+    let from: u64 = next()?.parse()?;
+    let n: u32 = next()?.parse()?;
+    let come: u64 = next()?.parse()?;
+    let fits = next()? == "yes";
+    let pages = next()?;
+    let len: u32 = next()?.parse()?;
+    let mut new = Vec::new(alloc);
+    for i in 0..come {
+        new.push((u128::from(from) + u128::from(i), i))?;
+    }
+    let did = dir.splice(&u128::from(from), n, &new);
+    let right_pages = pages == "-" || pages.parse::<usize>()? == dir.dir.order().len();
+    Ok(did == fits && right_pages && dir.dir.len() == len)
+}
+
+#[test]
+fn splices_at_the_ends(rt: HostRuntime) -> Result<(), Fail> {
+    let mut dir = Listed {
+        dir: PageDir::with_room(rt.alloc(), 200)?,
+    };
+    for row in SPLICES.lines() {
+        assert!(rt; goes_as_told(rt.alloc(), &mut dir, row)?, "{row}");
+    }
+    assert_eq!(rt; dir.dir.room(), 200);
+    assert!(rt; dir.dir.is_empty());
+    assert_eq!(rt; dir.dir.pages().spare(), 0);
+    Ok(())
+}
