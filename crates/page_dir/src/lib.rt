@@ -9,6 +9,8 @@ mod page;
 mod replacing;
 mod spread;
 mod steps;
+#[cfg(test)]
+mod tests;
 mod tidying;
 mod walk;
 
