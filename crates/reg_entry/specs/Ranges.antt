@@ -1,5 +1,5 @@
 -- Ranges that carry a value, as a sorted list: sub-assignments and reverse entries are kept so.
-use Rattle.std.specs.Prelude.{◌≡◌, Bool, true, not, ◌&&◌, ◌||◌, ◌==◌, nat_lt, nat_le, if◌then◌else◌, List, [], ◌∷◌, Option, filter, find}
+use Rattle.std.specs.Prelude.{◌≡◌, true, not, ◌&&◌, ◌||◌, nat_lt, if◌then◌else◌, List, [], ◌∷◌, Option, filter, find}
 use Rattle.std.specs.Option.{option_map}
 pub use Rattle.num_range.specs.Space.{space_rank, same_space}
 use Rattle.num_range.specs.Range.{PlainRange, IsRange}

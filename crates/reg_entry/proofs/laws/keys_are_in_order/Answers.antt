@@ -1,5 +1,4 @@
-use Rattle.std.proofs.Common.{◌≡◌, refl}
-use Rattle.reg_entry.specs.declared.object.Key.{Key as TheKey}
+use Rattle.std.proofs.Common.{refl}
 use Rattle.reg_entry.specs.declared.object.Key.TheVariants.{Org, Block, Sub, Cut}
 use Rattle.reg_entry.proofs.Orders.{bytes_in_order}
 use Rattle.reg_entry.proofs.laws.keys_are_in_order.Goals as goal
