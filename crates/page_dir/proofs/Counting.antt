@@ -1,8 +1,11 @@
 -- How many pages a list has at most, where two neighbours have more than 64 items together.
-use Rattle.std.proofs.Common.{◌≡◌, ℕ, zero, suc, ◌+◌, ◌-◌, ◌*◌, ◌/◌, ◌<◌, ◌≤◌, List, [], ◌∷◌, ◌++◌, length, refl, ap, sym, ◌∙◌, inl, inr, arith, length-append}
+use Rattle.std.proofs.Common.{◌≡◌, ℕ, zero, suc, ◌+◌, ◌-◌, ◌*◌, ◌/◌, ◌<◌, ◌≤◌, List, [], ◌∷◌, ◌++◌, length, refl, ap, sym, ◌∙◌, inl, inr, subst, arith, ◌^◌, length-append}
+use Rattle.std.specs.declared.cmp.Ordering.{Ordering}
 use Rattle.std.proofs.lemmas.Bool.{cases_lt}
-use Rattle.page_dir.specs.Directory.{pages_for}
-use Rattle.page_dir.specs.Pages.{HoldsEnough, joined, page_of}
+use Rattle.page_dir.specs.Directory.{IsDir, pages_for}
+use Rattle.page_dir.specs.Pages.{ArePages, HoldsEnough, joined, page_of, pages_at}
+use Rattle.page_dir.specs.Sorted.{Rises}
+use Rattle.page_dir.specs.Spread.{PlainSpread, pages_in}
 
 pairs_hold : {T : Type 0} (m : ℕ) (ps : List (List T)) → ((i : ℕ) → suc i < length ps → 64 < length (page_of ps i) + length (page_of ps (suc i)))
     → 2 * m ≤ length ps → 65 * m ≤ length (joined ps)
@@ -29,3 +32,12 @@ two_spare ps spare room enough reserved within = elim (cases_lt spare 2) [
     absurd (omega (arith, hold, within))) |
   inr more ↦ more
 ]
+
+-- a directory without pairs
+pub no_dir : {K V : Type 0} (cmp : K → K → Ordering) (spread : PlainSpread (K × V)) (room carry : ℕ) → spread.order ≡ [] → spread.spare ≡ pages_for room
+    → room ≤ 2 ^ 30 → 64 ≤ carry → IsDir cmp spread 0 room carry
+no_dir {K} {V} cmp spread room carry none spare most more =
+    let no_pages : pages_in spread ≡ [] = ap (pages_at spread.pool) none in
+    let D = λ (ps : List (List (K × V))). ArePages ps × Rises cmp (joined ps) × (0 ≡ length (joined ps)) × (length ps + spread.spare ≡ pages_for room) in
+    let empty : D (pages_in spread) = subst D (sym no_pages) (record { enough = λ i h. absurd (omega arith); within = λ i. omega arith }, tt, refl, omega (arith, spare)) in
+    record { pages = empty.0; rises = empty.1; count = empty.2; within = omega arith; most = most; reserved = empty.3; carry = more }

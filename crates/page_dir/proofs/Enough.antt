@@ -118,3 +118,10 @@ place_inside {T} ps i at p more = elim (cases_lt i (length ps)) [
   inl h ↦ h |
   inr h ↦ (let none : length (page_of ps i) ≡ 0 = ap length (get_or_past ps i [] h) in absurd (more (omega (arith, none, p.within))))
 ]
+
+pub enough_grown : {T : Type 0} (ps after : List (List T)) (r : ℕ) (page : List T) → after ≡ set ps r page → r < length ps → length (page_of ps r) ≤ length page
+    → ((i : ℕ) → i < length ps → HoldsEnough ps i) → (i : ℕ) → i < length after → HoldsEnough after i
+enough_grown ps after r page is there more all i h =
+    let len = ap length is ∙ length-set ps r page in
+    let whole = tidy-grown ps (length ps) (length ps) r page there more (tidy_from_enough ps (length ps) (length ps) (omega arith) all) in
+    subst (λ qs. HoldsEnough qs i) (sym is) (whole.below i (omega (arith, len)))

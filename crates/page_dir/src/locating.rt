@@ -43,7 +43,7 @@ fn pages_before<K: Ord + Copy, V: Copy, L: Ledger>(spread: &Spread<(K, V)>, key:
     let (mut low, mut high) = (0, spread.len());
     while low < high {
         let middle = low + (high - low) / 2;
-        let (first, _) = spread.page(middle)[0];
+        let (first, _) = spread.first(middle);
         if stands_before(&first, key, side, steps) {
             low = middle + 1;
         } else {

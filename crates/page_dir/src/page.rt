@@ -1,4 +1,5 @@
 ghost use Rattle.std.specs.Prelude.{◌≡◌, ◌+◌, ◌≤◌, ◌++◌, [], length, IfOk, vec_capacity};
+ghost use Rattle.std.specs.List.{slice_get};
 ghost use Rattle.page_dir.specs.Splices.{spliced};
 
 use std::alloc::{AllocError, Global};
@@ -8,6 +9,8 @@ use std::marker::Model;
 #[derive(Drop)]
 pub struct Page<T: Copy> {
     items: Vec<T>,
+    // Kept beside the items, so that a search over pages needn't go to their memory.
+    first: Option<T>,
 }
 
 impl<T: Copy> Model for Page<T> {
@@ -18,7 +21,7 @@ impl<T: Copy> Model for Page<T> {
 
     ghost view = { λ p. p.items.items };
 
-    ghost invariant = { λ p. IsPage p.items.items (vec_capacity p.items) };
+    ghost invariant = { λ p. IsPage p.items.items p.first (vec_capacity p.items) };
 }
 
 impl<T: Copy> Page<T> {
@@ -27,6 +30,7 @@ impl<T: Copy> Page<T> {
     {
         Ok(Page {
             items: Vec::with_capacity(alloc, 64)?,
+            first: None,
         })
     }
 
@@ -38,6 +42,13 @@ impl<T: Copy> Page<T> {
         self.items.as_slice()
     }
 
+    /// The first item.
+    pub(crate) fn first(&self) -> Option<T>
+        ensures { result ≡ slice_get self.now 0 }
+    {
+        self.first
+    }
+
     /// Has these items and no others.
     pub(crate) fn fill(&mut self, new: &[T])
         requires { length new.now ≤ 64 }
@@ -45,6 +56,7 @@ impl<T: Copy> Page<T> {
     {
         self.items.clear();
         append(&mut self.items, new);
+        self.first = self.items.first().copied();
     }
 
     /// So many items from a place on go, and the new ones come there. The tail is room to work in.
@@ -56,6 +68,7 @@ impl<T: Copy> Page<T> {
         ensures tail { 64 ≤ vec_capacity tail.new }
     {
         splice(&mut self.items, at, n, new, tail);
+        self.first = self.items.first().copied();
     }
 }
 
@@ -81,6 +94,10 @@ fn splice<T: Copy>(items: &mut Vec<T>, at: usize, n: usize, new: &[T], tail: &mu
     ensures room { 64 ≤ vec_capacity items.new }
     ensures tail { 64 ≤ vec_capacity tail.new }
 {
+    if n == new.len() {
+        items[at..at + n].copy_from_slice(new);
+        return;
+    }
     tail.clear();
     append(tail, &items[at + n..]);
     items.truncate(at);

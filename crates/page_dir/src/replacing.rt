@@ -28,6 +28,9 @@ pub(crate) fn replace<T: Copy>(spread: &mut Spread<T>, carry: &mut Vec<T>, i: us
         let here = spread.page(i).len();
         if at + n <= here && here + new.len() <= 64 + n {
             spread.splice(i, at, n, new);
+            if n <= new.len() {
+                return;
+            }
             tidy(spread, carry, i, i + 2);
             return;
         }

@@ -1,5 +1,5 @@
-ghost use Rattle.std.specs.Prelude.{◌≡◌, ℕ, ◌+◌, ◌<◌, ◌≤◌, [], length, IfOk, slice_set};
-ghost use Rattle.std.specs.List.{insert, remove};
+ghost use Rattle.std.specs.Prelude.{◌≡◌, ℕ, ◌+◌, ◌<◌, ◌≤◌, [], Some, length, IfOk, slice_set};
+ghost use Rattle.std.specs.List.{insert, remove, slice_get};
 ghost use Rattle.page_dir.specs.Pages.{AreDistinct, page_of};
 ghost use Rattle.page_dir.specs.Splices.{spliced};
 ghost use Rattle.page_dir.specs.Spread.{pages_in};
@@ -78,6 +78,18 @@ impl<T: Copy> Spread<T> {
         ensures within { length result.now ≤ 64 }
     {
         self.pool.get(&self.order[i]).as_slice()
+    }
+
+    /// The first item of a page in use that has one.
+    pub(crate) fn first(&self, i: usize) -> T
+        requires page { i < length (pages_in self.now) }
+        requires filled { 0 < length (page_of (pages_in self.now) i) }
+        ensures { slice_get (page_of (pages_in self.now) i) 0 ≡ Some result }
+    {
+        match self.pool.get(&self.order[i]).first() {
+            None => unreachable!(),
+            Some(first) => first,
+        }
     }
 
     /// Each page has at most 64 items.

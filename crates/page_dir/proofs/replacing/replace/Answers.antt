@@ -3,8 +3,9 @@ use Rattle.std.specs.List.{insert}
 use Rattle.page_dir.specs.Pages.{joined, page_of}
 use Rattle.page_dir.specs.Splices.{spliced}
 use Rattle.page_dir.specs.Spread.{AreTidy, pages_in, start}
-use Rattle.page_dir.proofs.Enough.{tidy-inserted}
+use Rattle.page_dir.proofs.Enough.{enough_grown, tidy-inserted}
 use Rattle.page_dir.proofs.Joining.{joined-replaced, joined-spliced, joined-split}
+use Rattle.page_dir.proofs.Splicing.{length-spliced}
 use Rattle.std.proofs.lemmas.List.{length-append}
 use Rattle.page_dir.proofs.replacing.replace.Goals as goal
 
@@ -14,6 +15,21 @@ returns-then-here-new-clause-joined g c =
     let here = ap length c.page-here.ensures.items in
     c.tidy.ensures.joined ∙ ap joined c.splice.ensures.pages
     ∙ joined-spliced ps c.args.i c.args.at c.args.n c.args.new.now (omega arith) (omega (arith, here))
+
+pub returns-then-n-new-clause-joined : goal.returns-then-n-new-clause-joined
+returns-then-n-new-clause-joined g c =
+    let ps = pages_in c.args.spread.now in
+    let here = ap length c.page-here.ensures.items in
+    ap joined c.splice.ensures.pages ∙ joined-spliced ps c.args.i c.args.at c.args.n c.args.new.now (omega arith) (omega (arith, here))
+
+pub returns-then-n-new-clause-enough : goal.returns-then-n-new-clause-enough
+returns-then-n-new-clause-enough g c =
+    let ps = pages_in c.args.spread.now in
+    let page = page_of ps c.args.i in
+    let here = ap length c.page-here.ensures.items in
+    let len = length-spliced c.args.at c.args.n c.args.new.now page (omega (arith, here)) in
+    enough_grown ps (pages_in c.splice.new.self) c.args.i (spliced c.args.at c.args.n c.args.new.now page) c.splice.ensures.pages (omega arith)
+    (omega (arith, len)) c.requires.enough
 
 pub cut-requires-clause-enough : goal.cut-requires-clause-enough
 cut-requires-clause-enough g c =
