@@ -7,3 +7,8 @@ pub mod Kept
 pub mod Touching
 pub mod Cuts
 pub mod Totals
+pub mod GivingWay
+pub mod Painting
+pub mod Exchanging
+pub mod Painted
+pub mod Parted

@@ -4,3 +4,5 @@ pub mod Seams
 pub mod Touched
 pub mod Cutting
 pub mod Places
+pub mod GivesWay
+pub mod Exchange
