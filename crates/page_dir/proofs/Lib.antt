@@ -1,0 +1,9 @@
+mod Counting
+mod Enough
+mod Halving
+mod Joining
+pub mod Looking
+mod Places
+pub mod Rising
+mod Spreads
+pub mod Splicing

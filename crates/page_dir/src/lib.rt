@@ -1,0 +1,17 @@
+//! A strictly sorted list of pairs in pages of 64, which a pool holds from the start: after the list is made, nothing takes
+//! memory, and a change moves no more than the pages that it meets.
+#![tactic(auto)]
+
+mod directory;
+mod locating;
+mod page;
+mod replacing;
+mod spread;
+mod steps;
+mod tidying;
+mod walk;
+
+pub use directory::PageDir;
+pub use page::Page;
+pub use steps::Steps;
+pub use walk::PageWalk;
