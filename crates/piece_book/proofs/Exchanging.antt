@@ -1,12 +1,13 @@
 -- What an exchange of a run of pieces leaves as it was.
-use Rattle.std.proofs.Common.{◌≡◌, ℕ, ◌+◌, ◌<◌, ◌≤◌, suc, zero, true, false, nat_lt, List, [], ◌∷◌, ◌++◌, length, get_or, take, drop, ◌⊎◌, inl, inr, refl, sym, ◌∙◌, ap, subst, arith, append_assoc, length-append, Contains}
+use Rattle.std.proofs.Common.{◌≡◌, ℕ, ◌+◌, ◌<◌, ◌≤◌, suc, zero, true, false, nat_lt, List, [], ◌∷◌, ◌++◌, length, get_or, take, drop, ◌⊎◌, inl, inr, refl, sym, ◌∙◌, ap, subst, arith, append_assoc, length-append, length-take, length-drop, Contains}
 use Rattle.std.proofs.lemmas.Bool.{lt-ltb, le-ltb}
 use Rattle.std.proofs.lemmas.List.{take_at, drop_at, append-nil}
-use Rattle.std.specs.List.{prefix_len}
+use Rattle.std.specs.List.{AllByRecursion, prefix_len}
+use Rattle.num_range.specs.declared.space.Space.{Space}
 use Rattle.reg_entry.specs.declared.piece.Piece.{Piece}
-use Rattle.reg_entry.specs.Pieces.{RisesFrom}
+use Rattle.reg_entry.specs.Pieces.{AllPiecesOf, RisesFrom}
 use Rattle.reg_entry.proofs.Joining.{rises_from_lower}
-use Rattle.piece_book.specs.Exchange.{begun_below, start_of, place_of, exchanged}
+use Rattle.piece_book.specs.Exchange.{begun_below, start_of, place_of, exchanged, IsExchange}
 use Rattle.piece_book.specs.Touched.{IsTouched}
 
 -- ---- parts of a list that rises
@@ -23,6 +24,14 @@ pub rises_between : (ps front run back : List Piece) → RisesFrom 0 ps → ps �
 rises_between ps front run back h e =
     rises_before 0 run back (rises_behind 0 front (run ++ back) (subst (λ (xs : List Piece). RisesFrom 0 xs) e h))
 
+pub spaces_of : (space : Space) (front rest : List Piece) → AllPiecesOf space (front ++ rest) → AllByRecursion (λ p. p.range.space ≡ space) front
+spaces_of space [] rest h = tt
+spaces_of space (p ∷ front) rest h = (h.0.of_space, spaces_of space front rest h.1)
+
+pub pieces_behind : (space : Space) (front rest : List Piece) → AllPiecesOf space (front ++ rest) → AllPiecesOf space rest
+pieces_behind space [] rest h = h
+pieces_behind space (p ∷ front) rest h = pieces_behind space front rest h.1
+
 -- ---- the place of a run
 
 begins_above : (value : ℕ) (ps : List Piece) → RisesFrom value ps → begun_below value ps ≡ 0
@@ -37,11 +46,6 @@ begun_front low (q ∷ front) rest qs p h k =
     let t : nat_lt q.range.first p.range.first ≡ true = lt-ltb q.range.first p.range.first (omega (arith, h.1, above.0)) in
     let rest_count = begun_front (q.range.last + 1) front rest qs p h.2 k in
     rw t (omega arith)
-
--- the run that goes and those that come begin at one place, where those that come don't begin above it
-pub record IsExchange (gone come ps new : List Piece) : Type 0 where
-  pub place : place_of come ps + length gone ≤ length ps
-  pub pieces : exchanged gone come ps ≡ new
 
 pub exchange_of : (ps new front gone come back : List Piece) (p : Piece) → ps ≡ front ++ (gone ++ back) → new ≡ front ++ ((p ∷ come) ++ back)
     → RisesFrom 0 new → RisesFrom p.range.first (gone ++ back) → IsExchange gone (p ∷ come) ps new
@@ -110,3 +114,15 @@ touches_nothing ps = record {
   before_rises = tt;
   after_rises = tt;
 }
+
+-- ---- how many there are
+
+pub exchange_count : (gone come ps new : List Piece) → IsExchange gone come ps new → length new + length gone ≡ length ps + length come
+exchange_count gone come ps new h =
+    let at : ℕ = place_of come ps in
+    let same = ap (λ (xs : List Piece). length xs) h.pieces in
+    let e1 = length-append (take at ps) (come ++ drop (at + length gone) ps) in
+    let e2 = length-append come (drop (at + length gone) ps) in
+    let e3 = length-take at ps in
+    let e4 = length-drop (at + length gone) ps in
+    omega (arith, h.place)

@@ -3,6 +3,7 @@
 use Rattle.std.proofs.Common.{◌≡◌, ℕ, ◌+◌, ◌-◌, ◌<◌, ◌≤◌, suc, zero, true, false, nat_lt, List, [], ◌∷◌, ◌++◌, length, get_or, Option, None, Some, option_to_list, Contains, ◌⊎◌, inl, inr, refl, sym, ◌∙◌, ap, subst, arith, length-append}
 use Rattle.std.proofs.lemmas.Bool.{cases_Bool, cond-true, cond-false, cond_both, and_parts, ltb-true, ltb-false}
 use Rattle.std.proofs.lemmas.List.Elements.{recursion_from_All, filter_passes, All-contains, Contains-append_cases}
+use Rattle.std.proofs.lemmas.List.{take_all}
 use Rattle.std.specs.List.{AllByRecursion}
 use Rattle.num_range.specs.declared.space.Space.{Space}
 use Rattle.num_range.specs.Range.{PlainRange, IsRange}
@@ -10,12 +11,14 @@ use Rattle.reg_entry.specs.declared.card.Card.{Card}
 use Rattle.reg_entry.specs.declared.card.Status.{Status}
 use Rattle.reg_entry.specs.declared.piece.Piece.{Piece}
 use Rattle.reg_entry.specs.Card.{is_available, plain_card}
-use Rattle.reg_entry.specs.Pieces.{laid, RisesFrom, IsSettled, IsCard, AllPiecesOf, ArePieces}
+use Rattle.reg_entry.specs.Pieces.{laid, RisesFrom, IsSettled, IsCard, IsInOnePieceOrNone, AllPiecesOf, ArePieces}
 use Rattle.piece_book.specs.GivesWay.{both_available, reach, gives_way, giving_way, first_of, last_from, last_of, ending_at, starting_at, rest_below, new_first, new_card, rest_above, new_last, new_line}
+use Rattle.piece_book.specs.Exchange.{IsExchange}
+use Rattle.piece_book.specs.Run.{IsRun}
 use Rattle.piece_book.specs.Touched.{IsTouched}
-use Rattle.piece_book.proofs.GivingWay.{LiesBelow, LiesAbove, Parts, parts, way_given}
-use Rattle.piece_book.proofs.Painting.{laid_between, last_gives}
-use Rattle.piece_book.proofs.Exchanging.{contains_cases, rises_behind, rises_between, IsExchange, exchange_of, touched_of}
+use Rattle.piece_book.proofs.GivingWay.{LiesAbove, parts, reach_small, way_given, few_give_way}
+use Rattle.piece_book.proofs.Laid.{laid_between, last_gives}
+use Rattle.piece_book.proofs.Exchanging.{contains_cases, spaces_of, pieces_behind, rises_behind, rises_between, exchange_of, exchange_of_none, touched_of, touches_nothing}
 
 -- ---- elements of a list that rises
 
@@ -221,14 +224,6 @@ pub record IsPainted (r : PlainRange) (c : Card) (ps : List Piece) : Type 0 wher
       → ((x : Piece) → giving_way r c.status ps ≡ x ∷ [] → new_line r c (first_of (giving_way r c.status ps)) (last_of (giving_way r c.status ps)) ≡ x ∷ [] → ⊥)
       → IsTouched ps (laid ps r c) (giving_way r c.status ps) (new_line r c (first_of (giving_way r c.status ps)) (last_of (giving_way r c.status ps)))
 
-spaces_of : (space : Space) (front rest : List Piece) → AllPiecesOf space (front ++ rest) → AllByRecursion (λ p. p.range.space ≡ space) front
-spaces_of space [] rest h = tt
-spaces_of space (p ∷ front) rest h = (h.0.of_space, spaces_of space front rest h.1)
-
-pieces_behind : (space : Space) (front rest : List Piece) → AllPiecesOf space (front ++ rest) → AllPiecesOf space rest
-pieces_behind space [] rest h = h
-pieces_behind space (p ∷ front) rest h = pieces_behind space front rest h.1
-
 -- the first of what comes begins no higher than what goes
 line_starts : (r : PlainRange) (c : Card) (low high : Option Piece)
     → (p : Piece) × (come : List Piece) × (new_line r c low high ≡ p ∷ come) × (p.range.first ≤ r.first) × ((q : Piece) → low ≡ Some q → p.range.first ≤ q.range.first)
@@ -323,15 +318,16 @@ painted space ps r c h of_space ordered =
           not_same x one.0 one.1);
     }
 
+each_given : (space : Space) (r : PlainRange) (s : Status) (ps : List Piece) → AllPiecesOf space ps → AllPiecesOf space (giving_way r s ps)
+each_given space r s [] k = tt
+each_given space r s (q ∷ ps) k =
+    cond_both (gives_way r s q) (q ∷ giving_way r s ps) (giving_way r s ps) (λ (xs : List Piece). AllPiecesOf space xs)
+    (λ e. (k.0, each_given space r s ps k.1)) (λ e. each_given space r s ps k.1)
+
 -- where the new piece becomes one with the piece below, the two have one card: the plain one
 pub one_card : (space : Space) (ps : List Piece) (r : PlainRange) (c : Card) → ArePieces space ps → IsCard c → new_card r c (first_of (giving_way r c.status ps)) ≡ c
-one_card space ps r c h plain = go (giving_way r c.status ps) (each_given ps h.each)
+one_card space ps r c h plain = go (giving_way r c.status ps) (each_given space r c.status ps h.each)
   where
-    each_given : (qs : List Piece) → AllPiecesOf space qs → AllPiecesOf space (giving_way r c.status qs)
-    each_given [] k = tt
-    each_given (q ∷ qs) k =
-        cond_both (gives_way r c.status q) (q ∷ giving_way r c.status qs) (giving_way r c.status qs) (λ (xs : List Piece). AllPiecesOf space xs)
-        (λ e. (k.0, each_given qs k.1)) (λ e. each_given qs k.1)
     go : (run : List Piece) → AllPiecesOf space run → new_card r c (first_of run) ≡ c
     go [] k = refl
     go (p ∷ run) k = elim (cases_Bool (nat_lt p.range.first r.first)) [
@@ -343,3 +339,112 @@ one_card space ps r c h plain = go (giving_way r c.status ps) (each_given ps h.e
             rw (t, u) (k.0.plain avail.0 ∙ sym (plain avail.1))
       ]
     ]
+
+-- ---- what is noted of the run
+
+gives_first : (r : PlainRange) (s : Status) (run : List Piece) (p : Piece) → AllByRecursion (λ x. gives_way r s x ≡ true) run → first_of run ≡ Some p → gives_way r s p ≡ true
+gives_first r s [] p each e = absurd (cc e)
+gives_first r s (q ∷ run) p each e = let same : q ≡ p = cc e in subst (λ (x : Piece). gives_way r s x ≡ true) same each.0
+
+gives_last : (r : PlainRange) (s : Status) (run : List Piece) (p : Piece) → AllByRecursion (λ x. gives_way r s x ≡ true) run → last_of run ≡ Some p → gives_way r s p ≡ true
+gives_last r s [] p each e = absurd (cc e)
+gives_last r s (q ∷ run) p each e = let same : last_from q run ≡ p = cc e in subst (λ (x : Piece). gives_way r s x ≡ true) same (last_gives r s q run each)
+
+all_give : (r : PlainRange) (s : Status) (ps : List Piece) → AllByRecursion (λ x. gives_way r s x ≡ true) (giving_way r s ps)
+all_give r s ps = recursion_from_All (λ p. gives_way r s p ≡ true) (giving_way r s ps) (filter_passes (gives_way r s) ps)
+
+-- the first that gives way ends no lower than right below the range, and the last begins no higher than right above it
+pub first_near : (r : PlainRange) (s : Status) (ps : List Piece) (p : Piece) → first_of (giving_way r s ps) ≡ Some p → r.first ≤ p.range.last + 1
+first_near r s ps p e =
+    let given = way_given r s p (gives_first r s (giving_way r s ps) p (all_give r s ps) e) in
+    let small = reach_small s p in
+    omega (arith, given.0)
+
+pub last_near : (r : PlainRange) (s : Status) (ps : List Piece) (p : Piece) → last_of (giving_way r s ps) ≡ Some p → p.range.first ≤ r.last + 1
+last_near r s ps p e =
+    let given = way_given r s p (gives_last r s (giving_way r s ps) p (all_give r s ps) e) in
+    let small = reach_small s p in
+    omega (arith, given.1)
+
+pub last_space : (space : Space) (r : PlainRange) (s : Status) (ps : List Piece) (p : Piece) → AllPiecesOf space ps → last_of (giving_way r s ps) ≡ Some p → p.range.space ≡ space
+last_space space r s ps p h e = go (giving_way r s ps) (each_given space r s ps h) e
+  where
+    from : (q : Piece) (run : List Piece) → AllPiecesOf space (q ∷ run) → (last_from q run).range.space ≡ space
+    from q [] k = k.0.of_space
+    from q (x ∷ run) k = from x run k.1
+    go : (run : List Piece) → AllPiecesOf space run → last_of run ≡ Some p → p.range.space ≡ space
+    go [] k e = absurd (cc e)
+    go (q ∷ run) k e = let same : last_from q run ≡ p = cc e in subst (λ (x : Piece). x.range.space ≡ space) same (from q run k)
+
+-- how many pieces there are after, by the rests at the two ends
+pub count_laid : (space : Space) (ps : List Piece) (r : PlainRange) (s : Status) (c : Card) (first last low high : Option Piece) (count : ℕ) (few : List Piece)
+    → ArePieces space ps → r.space ≡ space → r.first ≤ r.last → c.status ≡ s → IsRun (giving_way r s ps) first last count few
+    → low ≡ rest_below r s first → high ≡ rest_above r s last
+    → length (laid ps r c) + count ≡ length ps + (length (option_to_list low) + 1 + length (option_to_list high))
+count_laid space ps r s c first last low high count few h of_space ordered e run f g =
+    let is = subst (λ (x : Status). IsRun (giving_way r x ps) first last count few) (sym e) run in
+    let low_is : low ≡ rest_below r c.status (first_of (giving_way r c.status ps)) =
+    f ∙ ap (λ (x : Status). rest_below r x first) (sym e) ∙ ap (λ (o : Option Piece). rest_below r c.status o) is.first_is in
+    let high_is : high ≡ rest_above r c.status (last_of (giving_way r c.status ps)) =
+    g ∙ ap (λ (x : Status). rest_above r x last) (sym e) ∙ ap (λ (o : Option Piece). rest_above r c.status o) is.last_is in
+    let all = (painted space ps r c h of_space ordered).count in
+    let line = length-append (option_to_list (rest_below r c.status (first_of (giving_way r c.status ps))))
+    (record {
+      range = record { space = r.space; first = new_first r c.status (first_of (giving_way r c.status ps)); last = new_last r c.status (last_of (giving_way r c.status ps)) };
+      card = new_card r c (first_of (giving_way r c.status ps));
+    } ∷ option_to_list (rest_above r c.status (last_of (giving_way r c.status ps)))) in
+    let low_count = ap (λ (o : Option Piece). length (option_to_list o)) low_is in
+    let high_count = ap (λ (o : Option Piece). length (option_to_list o)) high_is in
+    omega (arith, is.count_is)
+
+-- the run that was noted, and the line that was built from its ends
+pub record IsBuilt (r : PlainRange) (c : Card) (ps gone come : List Piece) : Type 0 where
+  pub gone_is : gone ≡ giving_way r c.status ps
+  pub come_is : come ≡ new_line r c (first_of (giving_way r c.status ps)) (last_of (giving_way r c.status ps))
+
+pub built : (space : Space) (ps : List Piece) (r q : PlainRange) (c : Card) (first last low high : Option Piece) (count low_end high_end : ℕ) (few come : List Piece)
+    → ArePieces space ps → r.space ≡ space → r.first ≤ r.last → IsCard c → IsInOnePieceOrNone ps r → IsRun (giving_way r c.status ps) first last count few
+    → low ≡ rest_below r c.status first → high ≡ rest_above r c.status last → low_end ≡ new_first r c.status first → high_end ≡ new_last r c.status last
+    → q ≡ record { space = r.space; first = low_end; last = high_end }
+    → come ≡ option_to_list low ++ (record { range = q; card = c } ∷ option_to_list high)
+    → IsBuilt r c ps few come
+built space ps r q c first last low high count low_end high_end few come h of_space ordered plain one run f g m n e line =
+    let s : Status = c.status in
+    let is_few = few_give_way 0 r s ps ordered h.rises one in
+    let range : q ≡ record { space = r.space; first = new_first r s (first_of (giving_way r s ps)); last = new_last r s (last_of (giving_way r s ps)) } =
+    e
+    ∙ ap (λ (x : ℕ). let y : PlainRange = record { space = r.space; first = x; last = high_end } in y) (m ∙ ap (λ (o : Option Piece). new_first r s o) run.first_is)
+    ∙ ap (λ (x : ℕ). let y : PlainRange = record { space = r.space; first = new_first r s (first_of (giving_way r s ps)); last = x } in y) (n ∙ ap (λ (o : Option Piece). new_last r s o) run.last_is) in
+    record {
+      gone_is = run.few_is ∙ take_all 3 (giving_way r s ps) is_few;
+      come_is = line
+          ∙ ap (λ (o : Option Piece). option_to_list o ++ (record { range = q; card = c } ∷ option_to_list high)) (f ∙ ap (λ (o : Option Piece). rest_below r s o) run.first_is)
+          ∙ ap (λ (o : Option Piece). option_to_list (rest_below r s (first_of (giving_way r s ps))) ++ (record { range = q; card = c } ∷ option_to_list o))
+          (g ∙ ap (λ (o : Option Piece). rest_above r s o) run.last_is)
+          ∙ ap (λ (x : PlainRange). option_to_list (rest_below r s (first_of (giving_way r s ps))) ++ (record { range = x; card = c } ∷ option_to_list (rest_above r s (last_of (giving_way r s ps))))) range
+          ∙ ap (λ (d : Card). option_to_list (rest_below r s (first_of (giving_way r s ps)))
+          ++ (record { range = record { space = r.space; first = new_first r s (first_of (giving_way r s ps)); last = new_last r s (last_of (giving_way r s ps)) }; card = d }
+          ∷ option_to_list (rest_above r s (last_of (giving_way r s ps))))) (sym (one_card space ps r c h plain));
+    }
+
+-- the whole of what a painting says
+pub record IsPaintedBy (r : PlainRange) (c : Card) (ps gone come : List Piece) : Type 0 where
+  pub exchange : IsExchange gone come ps (laid ps r c)
+  pub touched : IsTouched ps (laid ps r c) gone come
+
+pub changed : (space : Space) (ps : List Piece) (r : PlainRange) (c : Card) (gone come : List Piece) → ArePieces space ps → r.space ≡ space → r.first ≤ r.last
+    → RisesFrom 0 (laid ps r c) → IsBuilt r c ps gone come → ((x : Piece) → gone ≡ x ∷ [] → come ≡ x ∷ [] → ⊥) → IsPaintedBy r c ps gone come
+changed space ps r c gone come h of_space ordered k is apart =
+    let all = painted space ps r c h of_space ordered in
+    subst (λ (xs : List Piece). IsPaintedBy r c ps xs come) (sym is.gone_is)
+    (subst (λ (xs : List Piece). IsPaintedBy r c ps (giving_way r c.status ps) xs) (sym is.come_is)
+    (record { exchange = all.exchange k; touched = all.touched k (λ x u v. apart x (is.gone_is ∙ u) (is.come_is ∙ v)) }))
+
+pub unchanged : (space : Space) (ps : List Piece) (r : PlainRange) (c : Card) (gone come : List Piece) → ArePieces space ps → r.space ≡ space → r.first ≤ r.last
+    → IsBuilt r c ps gone come → gone ≡ come → IsPaintedBy r c ps [] []
+unchanged space ps r c gone come h of_space ordered is same =
+    let stays = (painted space ps r c h of_space ordered).same (sym is.gone_is ∙ same ∙ is.come_is) in
+    record {
+      exchange = subst (λ (xs : List Piece). IsExchange [] [] ps xs) (sym stays) (exchange_of_none ps);
+      touched = subst (λ (xs : List Piece). IsTouched ps xs [] []) (sym stays) (touches_nothing ps);
+    }

@@ -3,13 +3,16 @@ use Rattle.std.proofs.Common.{◌≡◌, ℕ, ◌+◌, ◌-◌, ◌<◌, ◌≤�
 use Rattle.std.proofs.lemmas.Bool.{cases_Bool, cases_lt, lt-ltb, le-ltb, le-leb, lt-leb, eq-eqb, ne_eqb}
 use Rattle.std.proofs.lemmas.Option.{none-some, same_Some}
 use Rattle.std.specs.List.{flat_map}
+use Rattle.num_range.specs.declared.space.Space.{Space}
+use Rattle.num_range.specs.Range.{PlainRange}
 use Rattle.reg_entry.specs.declared.piece.Piece.{Piece}
-use Rattle.reg_entry.specs.Pieces.{piece_holds, piece_at, joined_pair, RisesFrom}
+use Rattle.reg_entry.specs.Pieces.{piece_holds, piece_at, joined_pair, RisesFrom, AllPiecesOf}
 use Rattle.reg_entry.specs.Reshaping.{split_piece, split_at_number, joined_at, CanJoinAt}
 use Rattle.reg_entry.proofs.Holding.{holds_true, holds_from, not_held_above, piece_at-first, piece_at-rest, piece_at-below}
 use Rattle.piece_book.specs.GivesWay.{ending_at, starting_at}
+use Rattle.piece_book.specs.Exchange.{IsExchange}
 use Rattle.piece_book.specs.Touched.{IsTouched}
-use Rattle.piece_book.proofs.Exchanging.{contains_cases, rises_behind, rises_between, IsExchange, exchange_of, touched_of}
+use Rattle.piece_book.proofs.Exchanging.{contains_cases, rises_behind, rises_between, exchange_of, touched_of}
 
 -- ---- the piece that holds a number
 
@@ -160,3 +163,62 @@ join_is ps at can h k =
       touched_of ps (joined_at ps at) here.front (p ∷ q ∷ []) (joined_pair p q ∷ []) next.0 was after h k
           (λ x goes comes. pair_apart p q x (rises_between ps here.front (p ∷ q ∷ []) next.0 h was) goes comes),
     )
+
+-- ---- what the code builds
+
+pub record IsChangedBy (ps new gone come : List Piece) : Type 0 where
+  pub exchange : IsExchange gone come ps new
+  pub touched : IsTouched ps new gone come
+
+pub split_done : (ps gone come : List Piece) (at : ℕ) (p : Piece) (low high : PlainRange) (s : Space) (first last : ℕ) → RisesFrom 0 ps → RisesFrom 0 (split_at_number ps at)
+    → piece_at ps at ≡ Some p → p.range.first < at → s ≡ p.range.space → first ≡ p.range.first → last ≡ p.range.last
+    → low ≡ record { space = s; first = first; last = at - 1 } → high ≡ record { space = s; first = at; last = last }
+    → gone ≡ p ∷ [] → come ≡ record { range = low; card = p.card } ∷ record { range = high; card = p.card } ∷ []
+    → IsChangedBy ps (split_at_number ps at) gone come
+split_done ps gone come at p low high s first last h k found l es ef el e_low e_high e_gone e_come =
+    let low_is : record { range = low; card = p.card } ≡ ending_at p (at - 1) =
+    ap (λ (q : PlainRange). let x : Piece = record { range = q; card = p.card } in x) e_low
+    ∙ ap (λ (y : Space). let x : Piece = record { range = record { space = y; first = first; last = at - 1 }; card = p.card } in x) es
+    ∙ ap (λ (n : ℕ). let x : Piece = record { range = record { space = p.range.space; first = n; last = at - 1 }; card = p.card } in x) ef in
+    let high_is : record { range = high; card = p.card } ≡ starting_at p at =
+    ap (λ (q : PlainRange). let x : Piece = record { range = q; card = p.card } in x) e_high
+    ∙ ap (λ (y : Space). let x : Piece = record { range = record { space = y; first = at; last = last }; card = p.card } in x) es
+    ∙ ap (λ (n : ℕ). let x : Piece = record { range = record { space = p.range.space; first = at; last = n }; card = p.card } in x) el in
+    let come_is : come ≡ ending_at p (at - 1) ∷ starting_at p at ∷ [] =
+    e_come
+    ∙ ap (λ (x : Piece). x ∷ record { range = high; card = p.card } ∷ []) low_is
+    ∙ ap (λ (x : Piece). ending_at p (at - 1) ∷ x ∷ []) high_is in
+    let done = split_is ps at p h k found l in
+    subst (λ (xs : List Piece). IsChangedBy ps (split_at_number ps at) xs come) (sym e_gone)
+    (subst (λ (xs : List Piece). IsChangedBy ps (split_at_number ps at) (p ∷ []) xs) (sym come_is) (record { exchange = done.0; touched = done.1 }))
+
+pub join_done : (ps gone come : List Piece) (at : ℕ) (can : CanJoinAt ps at) (p q : Piece) (pair : PlainRange) (s : Space) (first last : ℕ)
+    → RisesFrom 0 ps → RisesFrom 0 (joined_at ps at) → can.left ≡ p → can.right ≡ q → s ≡ p.range.space → first ≡ p.range.first → last ≡ q.range.last
+    → pair ≡ record { space = s; first = first; last = last } → gone ≡ p ∷ q ∷ [] → come ≡ record { range = pair; card = p.card } ∷ []
+    → IsChangedBy ps (joined_at ps at) gone come
+join_done ps gone come at can p q pair s first last h k ep eq es ef el e_pair e_gone e_come =
+    let come_is : come ≡ joined_pair p q ∷ [] =
+    e_come
+    ∙ ap (λ (x : PlainRange). let y : Piece = record { range = x; card = p.card } in y ∷ []) e_pair
+    ∙ ap (λ (x : Space). let y : Piece = record { range = record { space = x; first = first; last = last }; card = p.card } in y ∷ []) es
+    ∙ ap (λ (n : ℕ). let y : Piece = record { range = record { space = p.range.space; first = n; last = last }; card = p.card } in y ∷ []) ef
+    ∙ ap (λ (n : ℕ). let y : Piece = record { range = record { space = p.range.space; first = p.range.first; last = n }; card = p.card } in y ∷ []) el in
+    let gone_is : gone ≡ can.left ∷ can.right ∷ [] = e_gone ∙ ap (λ (x : Piece). x ∷ q ∷ []) (sym ep) ∙ ap (λ (x : Piece). can.left ∷ x ∷ []) (sym eq) in
+    let pair_is : come ≡ joined_pair can.left can.right ∷ [] = come_is ∙ ap (λ (x : Piece). joined_pair x q ∷ []) (sym ep) ∙ ap (λ (x : Piece). joined_pair can.left x ∷ []) (sym eq) in
+    let done = join_is ps at can h k in
+    subst (λ (xs : List Piece). IsChangedBy ps (joined_at ps at) xs come) (sym gone_is)
+    (subst (λ (xs : List Piece). IsChangedBy ps (joined_at ps at) (can.left ∷ can.right ∷ []) xs) (sym pair_is) (record { exchange = done.0; touched = done.1 }))
+
+-- the two pieces lie in order
+pub pair_ordered : (ps : List Piece) (at : ℕ) (can : CanJoinAt ps at) → can.left.range.first ≤ can.right.range.last
+pair_ordered ps at can =
+    let below = held ps (at - 1) can.left can.holds_before in
+    let above = held ps at can.right can.holds_at in
+    omega (arith, below.begins, above.ends)
+
+pub piece_space : (space : Space) (ps : List Piece) (x : ℕ) (p : Piece) → AllPiecesOf space ps → piece_at ps x ≡ Some p → p.range.space ≡ space
+piece_space space [] x p h e = absurd (none-some p e)
+piece_space space (q ∷ ps) x p h e = elim (cases_Bool (piece_holds q x)) [
+  | inl t ↦ subst (λ (y : Piece). y.range.space ≡ space) (same_Some q p (sym (piece_at-first q ps x t) ∙ e)) h.0.of_space
+  | inr t ↦ piece_space space ps x p h.1 (sym (piece_at-rest q ps x t) ∙ e)
+]

@@ -1,5 +1,5 @@
 -- How pieces give way to others: a run of them goes, and the others come in its stead.
-use Rattle.std.specs.Prelude.{ℕ, ◌+◌, nat_lt, List, [], ◌∷◌, ◌++◌, length, take, drop}
+use Rattle.std.specs.Prelude.{◌≡◌, ℕ, ◌≤◌, ◌+◌, nat_lt, List, [], ◌∷◌, ◌++◌, length, take, drop}
 use Rattle.std.specs.List.{prefix_len}
 use Rattle.reg_entry.specs.declared.piece.Piece.{Piece}
 
@@ -19,3 +19,8 @@ place_of come ps = begun_below (start_of come) ps
 -- as many pieces as go give way, from the place on, to those that come
 abbrev pub exchanged : List Piece → List Piece → List Piece → List Piece
 exchanged gone come ps = take (place_of come ps) ps ++ (come ++ drop (place_of come ps + length gone) ps)
+
+-- those that go stand at the place in one run, and the pieces after are these
+pub record IsExchange (gone come ps new : List Piece) : Type 0 where
+  pub place : place_of come ps + length gone ≤ length ps
+  pub pieces : exchanged gone come ps ≡ new
