@@ -1,13 +1,10 @@
 -- The index of holders by their handles: what is found in it, and how it follows the holders.
 use Rattle.std.proofs.Common.{◌≡◌, ℕ, ◌+◌, ◌-◌, ◌<◌, ◌≤◌, false, List, [], ◌∷◌, ◌++◌, None, Some, length, get_or, refl, sym, ◌∙◌, ap, subst, inl, inr, arith}
 use Rattle.std.specs.List.{All, HoldsAt, insert}
-use Rattle.std.specs.List.Sorted.{IsPartitionPoint, IsBinarySearchResult}
+use Rattle.std.specs.List.Sorted.{IsPartitionPoint}
 use Rattle.std.specs.Ordering.{is_eq, nat_cmp, ordering_index, ordering_reverse}
 use Rattle.std.specs.declared.cmp.Ordering.{Ordering}
 use Rattle.std.specs.declared.cmp.Ordering.TheVariants.{Less, Equal, Greater}
-use Rattle.std.specs.Result.{IfOk, IfErr}
-use Rattle.std.specs.declared.result.Result.{Result}
-use Rattle.std.specs.declared.result.Result.TheVariants.{Ok, Err}
 use Rattle.std.specs.Cmp.Lexicographic.{slice_cmp}
 use Rattle.std.specs.Str.{bytes_eq}
 use Rattle.std.proofs.lemmas.Bool.{cases_Bool, cases_lt, both_ways}
@@ -20,13 +17,13 @@ use Rattle.std.proofs.lemmas.List.Sorted.{IsNonDecreasingBy-insert}
 use Rattle.std.proofs.lemmas.Option.{none-some}
 use Rattle.reg_entry.specs.declared.holder.Holder.{Holder}
 use Rattle.reg_entry.specs.Holders.{holder_number, added_holder, edited_holder}
-use Rattle.holder_book.specs.Index.{RisesByHandle, IsInsertedAt, IsHolderIndex}
+use Rattle.holder_book.specs.Index.{RisesByHandle, IsBetween, IsHolderIndex}
 use Rattle.holder_book.proofs.Places.{number_stays, still_no_number, number_of_new, number_after_editing}
 
 abbrev Entry : Type 0
 Entry = List ℕ × ℕ
 
-abbrev compared : List ℕ → List ℕ → Ordering
+abbrev pub compared : List ℕ → List ℕ → Ordering
 compared = slice_cmp nat_cmp
 
 pub same_bytes : (a b : List ℕ) → compared a b ≡ Equal → a ≡ b
@@ -63,18 +60,6 @@ rises_after es i e up l parted handle =
     rank_below e.0 (get_or es k d).0 handle
     (nat_list_cmp_total.antisymm e.0 (get_or es k d).0 ∙ ap ordering_reverse (parted.1 k d from within)))
 
--- ---- what a search by halving says
-
-pub search_found : (es : List Entry) (handle : List ℕ) (r : Result ℕ ℕ) → IsBinarySearchResult (λ e. compared e.0 handle) es r
-    → IfOk r (HoldsAt (λ e. e.0 ≡ handle) es)
-search_found es handle (Ok i) h = λ d. same_bytes (get_or es i d).0 handle (h d)
-search_found es handle (Err i) h = tt
-
-pub search_between : (es : List Entry) (handle : List ℕ) (r : Result ℕ ℕ) → RisesByHandle es → IsBinarySearchResult (λ e. compared e.0 handle) es r
-    → IfErr r (IsPartitionPoint (λ e. compared e.0 handle ≡ Less) (λ e. compared e.0 handle ≡ Greater) es)
-search_between es handle (Ok i) up h = tt
-search_between es handle (Err i) up h = h (up handle)
-
 -- ---- all entries of the index after an entry was put in
 
 all_after : (P : Entry → Type 0) (es : List Entry) (i : ℕ) (e : Entry) → i ≤ length es → All P es → P e → All P (insert es i e)
@@ -104,12 +89,6 @@ all_before P es i e l h =
 
 -- ---- what the index says
 
-pub number_found : (hs : List (Holder × ℕ)) (es : List Entry) (i : ℕ) (handle : List ℕ) (e : Entry) → IsHolderIndex hs es → i < length es
-    → get_or es i e ≡ e → e.0 ≡ handle → holder_number hs handle ≡ Some e.1
-number_found hs es i handle e h within at same =
-    let known : holder_number hs e.0 ≡ Some e.1 = subst (λ x. holder_number hs x.0 ≡ Some x.1) at (h.known i e within) in
-    ap (holder_number hs) (sym same) ∙ known
-
 pub none_found : (hs : List (Holder × ℕ)) (es : List Entry) (i : ℕ) (handle : List ℕ) → IsHolderIndex hs es
     → IsPartitionPoint (λ x. compared x.0 handle ≡ Less) (λ x. compared x.0 handle ≡ Greater) es i → holder_number hs handle ≡ None
 none_found hs es i handle h parted =
@@ -128,26 +107,21 @@ absent_from hs es handle h none k d within = elim (cases_Bool (bytes_eq (get_or 
       absurd (none-some (get_or es k d).1 (sym none ∙ ap (holder_number hs) (sym same) ∙ h.known k d within))
 ]
 
-pub index_after_adding : (hs : List (Holder × ℕ)) (es after : List Entry) (holder : Holder) (day number : ℕ) → IsHolderIndex hs es
-    → holder_number hs holder.handle ≡ None → number ≡ length hs → RisesByHandle after → (i : ℕ) × IsInsertedAt es i (holder.handle, number) after
-    → IsHolderIndex (added_holder hs holder day) after
-index_after_adding hs es after holder day number h none e rises put =
-    let i : ℕ = put.0 in
-    let l : i ≤ length es = put.1.0 in
-    let is : after ≡ insert es i (holder.handle, number) = put.1.1 in
+pub index_after_adding : (hs : List (Holder × ℕ)) (es : List Entry) (holder : Holder) (day i : ℕ) → IsHolderIndex hs es
+    → holder_number hs holder.handle ≡ None → i ≤ length es → IsBetween holder.handle es i
+    → IsHolderIndex (added_holder hs holder day) (insert es i (holder.handle, length hs))
+index_after_adding hs es holder day i h none l between =
     let new : Holder × ℕ = (holder, day) in
-    let P : Entry → Type 0 = λ x. holder_number (hs ++ new ∷ []) x.0 ≡ Some x.1 in
+    let entry : Entry = (holder.handle, length hs) in
     record {
-      rises = rises;
-      known = subst (λ xs. All P xs) (sym is)
-          (all_after P es i (holder.handle, number) l
+      rises = rises_after es i entry h.rises l between;
+      known = all_after (λ x. holder_number (hs ++ new ∷ []) x.0 ≡ Some x.1) es i entry l
           (λ k d within. number_stays hs new (get_or es k d).0 (get_or es k d).1 (h.known k d within))
-          (number_of_new hs new none ∙ ap Some (sym e)));
+          (number_of_new hs new none);
       whole = λ handle all.
-          let Q : Entry → Type 0 = λ x. bytes_eq x.0 handle ≡ false in
-          let parts = all_before Q es i (holder.handle, number) l (subst (λ xs. All Q xs) is all) in
+          let parts = all_before (λ x. bytes_eq x.0 handle ≡ false) es i entry l all in
           still_no_number hs new handle (h.whole handle parts.0) parts.1;
-      count = ap length is ∙ length-insert es i (holder.handle, number) l ∙ ap (λ n. n + 1) h.count ∙ sym (length_push hs new);
+      count = length-insert es i entry l ∙ ap (λ n. n + 1) h.count ∙ sym (length_push hs new);
     }
 
 pub index_after_editing : (hs : List (Holder × ℕ)) (es : List Entry) (holder : Holder) (day : ℕ) → IsHolderIndex hs es

@@ -132,10 +132,10 @@ distinct_after_adding hs m e h = distinct_with hs m (found_none (has_handle m.0.
 
 -- ---- a holder with other fields
 
-abbrev edited : Holder → ℕ → Held → Held
+abbrev pub edited : Holder → ℕ → Held → Held
 edited holder day m = cond (has_handle holder.handle m) (holder, day) m
 
-handle_of_edited : (holder : Holder) (day : ℕ) (m : Held) → (edited holder day m).0.handle ≡ m.0.handle
+pub handle_of_edited : (holder : Holder) (day : ℕ) (m : Held) → (edited holder day m).0.handle ≡ m.0.handle
 handle_of_edited holder day m =
     cond_both (has_handle holder.handle m) (holder, day) m (λ y. y.0.handle ≡ m.0.handle)
     (λ e. sym ((bytes_eq-Decides m.0.handle holder.handle).0 e))

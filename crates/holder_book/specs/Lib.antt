@@ -1,3 +1,4 @@
 pub mod Book
+pub mod Numbered
 pub mod Index
 pub mod Kept

@@ -2,6 +2,7 @@ ghost use Rattle.std.specs.Prelude.{◌≡◌, ◌^◌, ◌<◌, ◌≤◌, [], 
 ghost use Rattle.reg_entry.specs.Holders.{holder_number, added_holder, edited_holder, HaveDistinctHandles};
 
 use crate::index::{enter, place};
+use crate::numbered::Numbered;
 use reg_entry::{Handle, Holder};
 use std::alloc::{AllocError, Global};
 use std::marker::Model;
@@ -10,10 +11,9 @@ use std::marker::Model;
 /// takes memory, and nothing after that does.
 #[derive(Drop)]
 pub struct HolderBook {
-    holders: Vec<(Holder, u32)>,
+    holders: Numbered,
     // Their numbers in the order of their handles.
-    index: Vec<(Handle, u32)>,
-    room: u32,
+    by_handle: Vec<u32>,
 }
 
 impl Model for HolderBook {
@@ -23,9 +23,9 @@ impl Model for HolderBook {
 
     ghost Value = { PlainHolderBook };
 
-    ghost view = { λ b. record { holders = b.holders.items; room = b.room } };
+    ghost view = { λ b. b.holders };
 
-    ghost invariant = { λ b. IsHolderBook b.holders.items b.index.items b.room (vec_capacity b.holders) (vec_capacity b.index) };
+    ghost invariant = { λ b. IsHolderBook b.holders.holders b.by_handle.items b.holders.room (vec_capacity b.by_handle) };
 }
 
 impl HolderBook {
@@ -36,9 +36,8 @@ impl HolderBook {
         ensures { IfOk result (λ book. book ≡ record { holders = []; room = room }) }
     {
         Ok(HolderBook {
-            holders: Vec::with_capacity(alloc, room as usize)?,
-            index: Vec::with_capacity(alloc, room as usize)?,
-            room,
+            holders: Numbered::with_room(alloc, room)?,
+            by_handle: Vec::with_capacity(alloc, room as usize)?,
         })
     }
 
@@ -48,7 +47,7 @@ impl HolderBook {
         ensures within { length self.now.holders ≤ self.now.room }
         ensures distinct { HaveDistinctHandles self.now.holders }
     {
-        self.holders.len() as u32
+        self.holders.len()
     }
 
     /// How many holders there may be.
@@ -57,7 +56,7 @@ impl HolderBook {
         ensures bound { self.now.room ≤ 2 ^ 30 }
         ensures within { length self.now.holders ≤ self.now.room }
     {
-        self.room
+        self.holders.room()
     }
 
     /// The number of the holder with this handle, found by halving.
@@ -65,8 +64,8 @@ impl HolderBook {
         ensures number { result ≡ holder_number self.now.holders handle.now }
         ensures distinct { HaveDistinctHandles self.now.holders }
     {
-        match place(&self.index, handle) {
-            Ok(i) => Some(self.index[i].1),
+        match place(&self.holders, &self.by_handle, handle) {
+            Ok(i) => Some(self.by_handle[i]),
             Err(_) => None,
         }
     }
@@ -77,7 +76,7 @@ impl HolderBook {
         ensures holder { slice_get self.now.holders number ≡ Some result }
         ensures distinct { HaveDistinctHandles self.now.holders }
     {
-        let (holder, day) = &self.holders[number as usize];
+        let (holder, day) = self.holders.get(number);
         (*holder, *day)
     }
 
@@ -90,9 +89,9 @@ impl HolderBook {
         ensures room { self.new.room ≡ self.old.room }
         ensures distinct { HaveDistinctHandles self.new.holders }
     {
-        let number = self.len();
-        enter(&mut self.index, &holder.handle, number);
-        self.holders.push_reserved((*holder, day));
+        let number = self.holders.len();
+        enter(&self.holders, &mut self.by_handle, &holder.handle, number);
+        self.holders.push(holder, day);
         number
     }
 
@@ -103,6 +102,6 @@ impl HolderBook {
         ensures room { self.new.room ≡ self.old.room }
         ensures distinct { HaveDistinctHandles self.new.holders }
     {
-        self.holders[number as usize] = (*holder, day);
+        self.holders.set(number, holder, day);
     }
 }

@@ -1,43 +1,49 @@
 //! Holders' numbers in the order of their handles, to be found by halving.
 ghost use Rattle.std.specs.Prelude.{◌≡◌, ℕ, ◌<◌, ◌≤◌, false, vec_len, vec_capacity, length, IfOk, IfErr};
-ghost use Rattle.std.specs.List.{All, HoldsAt, insert};
-ghost use Rattle.std.specs.List.Sorted.{IsPartitionPoint, IsSearchInRange};
-ghost use Rattle.std.specs.Ordering.{nat_cmp};
-ghost use Rattle.std.specs.Cmp.Lexicographic.{slice_cmp};
-ghost use Rattle.std.specs.declared.cmp.Ordering.TheVariants.{Less, Greater};
+ghost use Rattle.std.specs.List.{All, HoldsAt};
+ghost use Rattle.std.specs.List.Sorted.{IsSearchInRange};
 ghost use Rattle.std.specs.Str.{bytes_eq};
-ghost use Rattle.holder_book.specs.Index.{RisesByHandle, IsInsertedAt};
+ghost use Rattle.holder_book.specs.Index.{RisesByHandle, IsBetween, IsEntered, entries};
 
+use crate::numbered::Numbered;
 use reg_entry::Handle;
 use std::cmp::Ordering;
 
-/// Where the handle stands, or where it would.
-pub(crate) fn place(index: &[(Handle, u32)], handle: &Handle) -> Result<usize, usize>
-    requires { RisesByHandle index.now }
-    ensures bound { IsSearchInRange result (length index.now) }
-    ensures found { IfOk result (HoldsAt (λ e. e.0 ≡ handle.now) index.now) }
-    ensures between { IfErr result (IsPartitionPoint (λ e. slice_cmp nat_cmp e.0 handle.now ≡ Less) (λ e. slice_cmp nat_cmp e.0 handle.now ≡ Greater) index.now) }
+/// Where the handle's number stands, or where it would.
+pub(crate) fn place(holders: &Numbered, by_handle: &[u32], handle: &Handle) -> Result<usize, usize>
+    requires numbers { All (λ n. n < length holders.now.holders) by_handle.now }
+    requires rises { RisesByHandle (entries holders.now.holders by_handle.now) }
+    ensures bound { IsSearchInRange result (length by_handle.now) }
+    ensures found { IfOk result (HoldsAt (λ e. e.0 ≡ handle.now) (entries holders.now.holders by_handle.now)) }
+    ensures between { IfErr result (IsBetween handle.now (entries holders.now.holders by_handle.now)) }
 {
-    index.binary_search_by(
-        |e: &(Handle, u32)| -> Ordering
-            ensures { result ≡ slice_cmp nat_cmp e.now.0 handle.entry.now }
-        { e.0.cmp(handle) },
-    )
+    let mut low = 0;
+    let mut high = by_handle.len();
+    while low < high {
+        let middle = low + (high - low) / 2;
+        let (holder, _) = holders.get(by_handle[middle]);
+        match holder.handle.cmp(handle) {
+            Ordering::Less => low = middle + 1,
+            Ordering::Equal => return Ok(middle),
+            Ordering::Greater => high = middle,
+        }
+    }
+    Err(low)
 }
 
-/// Puts a handle that isn't there in its place, with its number. There is room, so it can't fail.
-pub(crate) fn enter(index: &mut Vec<(Handle, u32)>, handle: &Handle, number: u32)
-    requires rises { RisesByHandle index.old.items }
-    requires absent { All (λ e. bytes_eq e.0 handle.now ≡ false) index.old.items }
-    requires room { vec_len index.old < vec_capacity index.old }
-    ensures rises { RisesByHandle index.new.items }
-    ensures items { (i : ℕ) × IsInsertedAt index.old.items i (handle.now, number) index.new.items }
-    ensures capacity { vec_capacity index.old ≤ vec_capacity index.new }
+/// Puts the number of a handle that isn't there at the handle's place. There is room, so it can't fail.
+pub(crate) fn enter(holders: &Numbered, by_handle: &mut Vec<u32>, handle: &Handle, number: u32)
+    requires numbers { All (λ n. n < length holders.now.holders) by_handle.old.items }
+    requires rises { RisesByHandle (entries holders.now.holders by_handle.old.items) }
+    requires absent { All (λ e. bytes_eq e.0 handle.now ≡ false) (entries holders.now.holders by_handle.old.items) }
+    requires room { vec_len by_handle.old < vec_capacity by_handle.old }
+    ensures entered { (i : ℕ) × IsEntered holders.now.holders by_handle.old.items handle.now number by_handle.new.items i }
+    ensures capacity { vec_capacity by_handle.old ≤ vec_capacity by_handle.new }
 {
-    match place(index, handle) {
+    match place(holders, by_handle, handle) {
         Ok(_) => unreachable!(),
         Err(i) => {
-            let _ = index.insert(i, (*handle, number));
+            let _ = by_handle.insert(i, number);
         }
     }
 }

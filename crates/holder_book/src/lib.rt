@@ -3,6 +3,7 @@
 
 mod book;
 mod index;
+mod numbered;
 #[cfg(test)]
 mod tests;
 

@@ -1,3 +1,4 @@
+mod Checking
 mod Counting
 mod Enough
 mod Halving

@@ -96,7 +96,7 @@ module _ {T : Type 0} (test : T → Bool) (ps : List (List T)) (filled : (i : �
         ]))
 
 -- what stands before a place among rising keys is a front
-less_from : (r : Ordering) → is_lt r ≡ true → r ≡ Less
+pub less_from : (r : Ordering) → is_lt r ≡ true → r ≡ Less
 less_from Less h = refl
 less_from Equal h = cc
 less_from Greater h = cc

@@ -1,5 +1,5 @@
 -- A splice of a list, by lengths and places. For callers too.
-use Rattle.std.proofs.Common.{◌≡◌, ℕ, zero, suc, ◌+◌, ◌-◌, ◌<◌, ◌≤◌, List, [], ◌∷◌, ◌++◌, length, take, drop, refl, ap, sym, ◌∙◌, arith, length-append, length-take-le, length-drop, append_assoc, zero-add, suc-add}
+use Rattle.std.proofs.Common.{◌≡◌, ℕ, zero, suc, ◌+◌, ◌-◌, ◌<◌, ◌≤◌, List, [], ◌∷◌, ◌++◌, length, take, drop, refl, ap, sym, ◌∙◌, arith, length-append, length-take-le, length-drop, append_assoc, zero-add, suc-add, add_assoc}
 use Rattle.std.proofs.lemmas.List.{take_at, drop_at, take-append-le, drop-append-le, append-nil, drop_all, take_all, drop-drop}
 use Rattle.std.specs.List.{slice_get}
 use Rattle.page_dir.specs.Splices.{spliced}
@@ -55,3 +55,33 @@ slice_get-append_left (x ∷ xs) ys (suc i) h = slice_get-append_left xs ys i (o
 pub slice_get-append_right : {T : Type 0} (xs ys : List T) (i : ℕ) → slice_get (xs ++ ys) (length xs + i) ≡ slice_get ys i
 slice_get-append_right [] ys i = ap (slice_get ys) (zero-add i)
 slice_get-append_right (x ∷ xs) ys i = ap (slice_get (x ∷ (xs ++ ys))) (suc-add (length xs) i) ∙ slice_get-append_right xs ys i
+
+pub slice_get-drop : {T : Type 0} (n : ℕ) (ts : List T) (i : ℕ) → slice_get (drop n ts) i ≡ slice_get ts (n + i)
+slice_get-drop n [] i = ap (λ xs. slice_get xs i) (drop_all n [] (omega arith))
+slice_get-drop zero (t ∷ ts) i = ap (slice_get (t ∷ ts)) (sym (zero-add i))
+slice_get-drop (suc n) (t ∷ ts) i = slice_get-drop n ts i ∙ ap (slice_get (t ∷ ts)) (sym (suc-add n i))
+
+slice_get-take : {T : Type 0} (n : ℕ) (ts : List T) (i : ℕ) → i < n → slice_get (take n ts) i ≡ slice_get ts i
+slice_get-take zero ts i h = absurd (omega arith)
+slice_get-take (suc n) [] i h = refl
+slice_get-take (suc n) (t ∷ ts) zero h = refl
+slice_get-take (suc n) (t ∷ ts) (suc i) h = slice_get-take n ts i (omega arith)
+
+-- what stands at a place of a splice: before it, among the new items, and behind it
+module _ {T : Type 0} (at n : ℕ) (new ts : List T) (there : at ≤ length ts) where
+  pub spliced_before : (i : ℕ) → i < at → slice_get (spliced at n new ts) i ≡ slice_get ts i
+  spliced_before i h =
+      slice_get-append_left (take at ts) (new ++ drop (at + n) ts) i (let e = length-take-le at ts there in omega (arith, e)) ∙ slice_get-take at ts i h
+
+  at_front : (i : ℕ) → slice_get (spliced at n new ts) (at + i) ≡ slice_get (new ++ drop (at + n) ts) i
+  at_front i =
+      ap (λ k. slice_get (spliced at n new ts) (k + i)) (sym (length-take-le at ts there))
+      ∙ slice_get-append_right (take at ts) (new ++ drop (at + n) ts) i
+
+  pub spliced_inside : (i : ℕ) → i < length new → slice_get (spliced at n new ts) (at + i) ≡ slice_get new i
+  spliced_inside i h = at_front i ∙ slice_get-append_left new (drop (at + n) ts) i h
+
+  pub spliced_after : (i : ℕ) → slice_get (spliced at n new ts) (at + length new + i) ≡ slice_get ts (at + n + i)
+  spliced_after i =
+      ap (slice_get (spliced at n new ts)) (add_assoc at (length new) i)
+      ∙ at_front (length new + i) ∙ slice_get-append_right new (drop (at + n) ts) i ∙ slice_get-drop (at + n) ts i

@@ -55,6 +55,7 @@ impl<K: Ord + Copy, V: Copy> PageDir<K, V> {
     pub fn len(&self) -> u32
         ensures count { result ≡ length self.now.pairs }
         ensures within { length self.now.pairs ≤ self.now.room }
+        ensures rises { Rises K.cmp self.now.pairs }
     {
         self.len
     }

@@ -1,3 +1,4 @@
 pub mod Places
 mod Stacks
 pub mod Times
+mod Unused

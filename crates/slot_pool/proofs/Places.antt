@@ -1,8 +1,11 @@
 -- What stands at the places of a list after a write, and what is held at the slots of a pool's cells. For callers too.
-use Rattle.std.proofs.Common.{◌≡◌, ◌≢◌, ℕ, suc, zero, ◌<◌, List, [], ◌∷◌, ◌++◌, Option, Some, None, length, get_or, set, refl, ap, sym, ◌∙◌, arith}
+use Rattle.std.proofs.Common.{◌≡◌, ◌≢◌, ℕ, suc, zero, ◌+◌, ◌<◌, cond, List, [], ◌∷◌, ◌++◌, Option, Some, None, length, get_or, set, replicate, refl, ap, sym, ◌∙◌, arith, subst}
 use Rattle.std.specs.List.{slice_get}
-use Rattle.std.proofs.lemmas.Option.{slice_get-get_or, slice_get_within}
-use Rattle.slot_pool.specs.Cells.{held, IsLive}
+use Rattle.std.specs.Option.{is_none}
+use Rattle.std.proofs.lemmas.List.Folds.{sum_by-replicate}
+use Rattle.std.proofs.lemmas.List.Sums.{sum_by-set}
+use Rattle.std.proofs.lemmas.Option.{get_or_from_slice_get, slice_get-get_or, slice_get_within}
+use Rattle.slot_pool.specs.Cells.{held, spare, IsLive}
 
 pub slice_get-set_same : {X : Type 0} (xs : List X) (i : ℕ) (x : X) → i < length xs → slice_get (set xs i x) i ≡ Some x
 slice_get-set_same [] i x h = absurd (omega arith)
@@ -27,6 +30,11 @@ held_same cells slot cell h = rw (slice_get-set_same cells slot cell h) refl
 
 pub held_other : {T : Type 0} (cells : List (Option T)) (slot k : ℕ) (cell : Option T) → k ≢ slot → held (set cells slot cell) k ≡ held cells k
 held_other cells slot k cell ne = rw (slice_get-set_other cells slot k cell ne) refl
+
+-- a value placed at a slot
+pub placed : {T : Type 0} (cells : List (Option T)) (slot : ℕ) (v : T) → slice_get cells slot ≡ Some None
+    → (after : List (Option T)) → after ≡ set cells slot (Some v) → held after slot ≡ Some v
+placed cells slot v vacant after is = ap (λ cs. held cs slot) is ∙ held_same cells slot (Some v) (slice_get_within cells slot None vacant)
 
 -- the value at a live slot
 pub value_at_live : {T : Type 0} (cells : List (Option T)) (slot : ℕ) → IsLive cells slot → (v : T) × (slice_get cells slot ≡ Some (Some v))
@@ -55,7 +63,28 @@ slice_get-push_other [] x (suc k) ne = refl
 slice_get-push_other (y ∷ ys) x zero ne = refl
 slice_get-push_other (y ∷ ys) x (suc k) ne = slice_get-push_other ys x k (λ e. ne (ap (λ n. suc n) e))
 
+-- how many cells are vacant once one is written
+pub spare_set : {T : Type 0} (cells : List (Option T)) (slot : ℕ) (before after : Option T) → slice_get cells slot ≡ Some before
+    → spare (set cells slot after) + cond (is_none before) 1 0 ≡ spare cells + cond (is_none after) 1 0
+spare_set cells slot before after e =
+    let at = get_or_from_slice_get cells slot before before e in
+    subst (λ c. spare (set cells slot after) + cond (is_none c) 1 0 ≡ spare cells + cond (is_none after) 1 0) at
+    (sum_by-set (λ (c : Option _). cond (is_none c) 1 0) cells slot after before (slice_get_within cells slot before e))
+
+-- a pool without values
+pub none_held : {T : Type 0} (n k : ℕ) → ◌≡◌ {A = Option T} (held (replicate n None) k) None
+none_held zero k = refl
+none_held (suc n) zero = refl
+none_held (suc n) (suc k) = none_held n k
+
+pub spare_vacant : (T : Type 0) (n : ℕ) → spare {T = T} (replicate n None) ≡ n
+spare_vacant T n = sum_by-replicate (λ (cell : Option T). cond (is_none cell) 1 0) n None ∙ omega arith
+
 -- the same, where cells and slot go by other names
+pub cell_there : {T : Type 0} (cells seen : List (Option T)) (slot place : ℕ) (cell : Option T)
+    → cells ≡ seen → slot ≡ place → slice_get cells slot ≡ Some cell → slice_get seen place ≡ Some cell
+cell_there cells seen slot place cell same_cells same_slot at = cc
+
 pub held_there : {T : Type 0} (cells seen : List (Option T)) (slot place : ℕ) (v : T)
     → cells ≡ seen → slot ≡ place → slice_get cells slot ≡ Some (Some v) → held seen place ≡ Some v
 held_there cells seen slot place v same_cells same_slot at = rw (← same_cells, ← same_slot, at) refl

@@ -7,22 +7,26 @@ use crate::Slot;
 use std::alloc::{AllocError, Global};
 use std::marker::Model;
 
-/// Places for a fixed number of values. Making one takes memory, and nothing after that does.
+/// Places for a fixed number of values. Making one takes memory, and nothing after that does; what is taken isn't touched
+/// before a value is placed there.
 #[derive(Drop)]
 pub struct Pool<T> {
+    // The cells that were ever used, in reserved memory.
     cells: Vec<Option<T>>,
+    // The slots of those that are vacant again.
     waiting: Vec<Slot>,
+    room: u32,
 }
 
 impl<T> Model for Pool<T> {
     ghost use Rattle.std.specs.Prelude.{List, Option, vec_capacity};
-    ghost use Rattle.slot_pool.specs.Stack.{IsStack};
+    ghost use Rattle.slot_pool.specs.Stack.{IsPool, with_unused};
 
     ghost Value = { List (Option T) };
 
-    ghost view = { λ p. p.cells.items };
+    ghost view = { λ p. with_unused p.cells.items p.room };
 
-    ghost invariant = { λ p. IsStack p.cells.items p.waiting.items (vec_capacity p.waiting) };
+    ghost invariant = { λ p. IsPool p.cells.items p.waiting.items p.room (vec_capacity p.cells) (vec_capacity p.waiting) };
 }
 
 impl<T: Drop> Pool<T> {
@@ -30,13 +34,11 @@ impl<T: Drop> Pool<T> {
     pub fn with_room(alloc: Global, room: u32) -> Result<Pool<T>, AllocError>
         ensures { IfOk result (λ pool. pool ≡ replicate room None) }
     {
-        let mut cells = Vec::with_capacity(alloc, room as usize)?;
-        let mut waiting = Vec::with_capacity(alloc, room as usize)?;
-        for index in 0..room {
-            cells.push(None)?;
-            waiting.push(Slot { index })?;
-        }
-        Ok(Pool { cells, waiting })
+        Ok(Pool {
+            cells: Vec::with_capacity(alloc, room as usize)?,
+            waiting: Vec::with_capacity(alloc, room as usize)?,
+            room,
+        })
     }
 
     /// Places the value, and says where; where no place is vacant it gives the value back.
@@ -50,11 +52,16 @@ impl<T: Drop> Pool<T> {
         ensures err { OnErr result (self.new ≡ self.old) }
     {
         match self.waiting.pop() {
-            None => Err(value),
             Some(slot) => {
                 self.cells[slot.index as usize] = Some(value);
                 Ok(slot)
             }
+            None if self.cells.len() < self.room as usize => {
+                let index = self.cells.len() as u32;
+                self.cells.push_reserved(Some(value));
+                Ok(Slot { index })
+            }
+            None => Err(value),
         }
     }
 
@@ -101,6 +108,6 @@ impl<T: Drop> Pool<T> {
     pub fn spare(&self) -> u32
         ensures { result ≡ spare self.now }
     {
-        self.waiting.len() as u32
+        self.waiting.len() as u32 + (self.room - self.cells.len() as u32)
     }
 }

@@ -13,8 +13,8 @@ fn two_places(rt: HostRuntime) -> Result<(), Fail> {
     assert_eq!(rt; *pool.get(&first), 7);
     assert_eq!(rt; pool.give(&first), 7);
     assert_eq!(rt; pool.spare(), 1);
+    assert_eq!(rt; *pool.get(&second), 18);
     let third = pool.take(9).map_err(|_| "no place for 9")?;
     assert_eq!(rt; *pool.get(&third), 9);
-    assert_eq!(rt; *pool.get(&second), 18);
     Ok(())
 }

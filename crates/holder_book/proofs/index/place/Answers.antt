@@ -1,18 +1,35 @@
-use Rattle.std.proofs.Common.{◌≡◌, rules}
-use Rattle.std.specs.Ordering.{nat_cmp}
-use Rattle.std.specs.Cmp.Lexicographic.{slice_cmp}
-use Rattle.std.proofs.lemmas.Fn.{always_returns_same}
-use Rattle.holder_book.proofs.Indexing.{search_found, search_between}
+use Rattle.std.proofs.Common.{◌∙◌, ◌<◌, ◌+◌, ◌-◌, ◌/◌, length, sym, arith}
+use Rattle.holder_book.specs.Index.{entries}
+use Rattle.holder_book.proofs.Entries.{length-entries}
+use Rattle.holder_book.proofs.Halving.{entry_read, upper_left, lower_left, found_there}
 use Rattle.holder_book.proofs.index.place.Goals as goal
 
-pub returns-clause-found : goal.returns-clause-found
-returns-clause-found c =
-    search_found c.args.index.now c.args.handle.now c.binary_search_by.result
-    (c.binary_search_by.ensures.position (λ e. slice_cmp nat_cmp e.0 c.args.handle.now)
-    (always_returns_same _ (λ a r. r ≡ slice_cmp nat_cmp a.0.now.0 c.args.handle.now) _ (λ a r q k. search rules)))
+pub loop-low-preserved-in-Less : goal.loop-low-preserved-in-Less
+loop-low-preserved-in-Less c =
+    let hs = c.args.holders.now.holders in
+    let half = c.loop-low.invariant in
+    let middle = c.loop-low.low + (c.loop-low.high - c.loop-low.low) / 2 in
+    let below : middle < c.loop-low.high = omega (arith, c.loop-low-test.true) in
+    let inside : middle < length c.args.by_handle.now = omega (arith, half.within, length-entries hs c.args.by_handle.now) in
+    upper_left (entries hs c.args.by_handle.now) c.args.handle.now c.loop-low.low middle c.loop-low.high _ c.requires.rises half below
+    (entry_read hs c.args.by_handle.now middle c.get.result.now c.args.handle.now _ inside c.get.ensures (sym c.cmp.ensures ∙ c.in-Less.is))
 
-pub returns-clause-between : goal.returns-clause-between
-returns-clause-between c =
-    search_between c.args.index.now c.args.handle.now c.binary_search_by.result c.requires
-    (c.binary_search_by.ensures.position (λ e. slice_cmp nat_cmp e.0 c.args.handle.now)
-    (always_returns_same _ (λ a r. r ≡ slice_cmp nat_cmp a.0.now.0 c.args.handle.now) _ (λ a r q k. search rules)))
+pub returns-in-Equal-clause-found : goal.returns-in-Equal-clause-found
+returns-in-Equal-clause-found c =
+    let hs = c.args.holders.now.holders in
+    let half = c.loop-low.invariant in
+    let middle = c.loop-low.low + (c.loop-low.high - c.loop-low.low) / 2 in
+    let below : middle < c.loop-low.high = omega (arith, c.loop-low-test.true) in
+    let inside : middle < length c.args.by_handle.now = omega (arith, half.within, length-entries hs c.args.by_handle.now) in
+    found_there (entries hs c.args.by_handle.now) c.args.handle.now c.loop-low.low middle c.loop-low.high _ c.requires.rises half below
+    (entry_read hs c.args.by_handle.now middle c.get.result.now c.args.handle.now _ inside c.get.ensures (sym c.cmp.ensures ∙ c.in-Equal.is))
+
+pub loop-low-preserved : goal.loop-low-preserved
+loop-low-preserved c =
+    let hs = c.args.holders.now.holders in
+    let half = c.loop-low.invariant in
+    let middle = c.loop-low.low + (c.loop-low.high - c.loop-low.low) / 2 in
+    let below : middle < c.loop-low.high = omega (arith, c.loop-low-test.true) in
+    let inside : middle < length c.args.by_handle.now = omega (arith, half.within, length-entries hs c.args.by_handle.now) in
+    lower_left (entries hs c.args.by_handle.now) c.args.handle.now c.loop-low.low middle c.loop-low.high _ c.requires.rises half below (omega arith)
+    (entry_read hs c.args.by_handle.now middle c.get.result.now c.args.handle.now _ inside c.get.ensures (sym c.cmp.ensures ∙ c.in-Greater.is))

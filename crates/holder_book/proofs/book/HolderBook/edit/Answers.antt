@@ -1,4 +1,4 @@
-use Rattle.std.proofs.Common.{◌≡◌, Some, slice_set, sym, subst}
+use Rattle.std.proofs.Common.{◌≡◌, ◌∙◌, Some, ap, sym, subst}
 use Rattle.reg_entry.specs.Holders.{holder_number, edited_holder}
 use Rattle.holder_book.proofs.Places.{edited_in_place}
 use Rattle.holder_book.proofs.Keeping.{kept_after_editing}
@@ -7,13 +7,15 @@ use Rattle.holder_book.proofs.book.HolderBook.edit.Goals as goal
 pub invariant_of-self : goal.invariant_of-self
 invariant_of-self c =
     let there = subst (λ b. holder_number b.holders c.args.holder.now.handle ≡ Some c.args.number) (sym c.self.view_is) c.requires in
-    kept_after_editing c.self.inside.holders.items c.self.inside.index.items c.args.holder.now c.args.day c.args.number _ _ _ c.self.invariant there
+    rw (c.set.ensures.holders, c.set.ensures.room)
+    (kept_after_editing c.self.inside.holders.holders c.self.inside.by_handle.items c.args.holder.now c.args.day c.args.number _ _ c.self.invariant there)
 
 pub returns-clause-holders : goal.returns-clause-holders
 returns-clause-holders c =
     let there = subst (λ b. holder_number b.holders c.args.holder.now.handle ≡ Some c.args.number) (sym c.self.view_is) c.requires in
-    subst (λ b. slice_set c.self.inside.holders.items c.args.number (c.args.holder.now, c.args.day) ≡ edited_holder b.holders c.args.holder.now c.args.day) c.self.view_is
-    (edited_in_place c.self.inside.holders.items c.args.holder.now c.args.day c.args.number c.self.invariant.distinct there)
+    c.set.ensures.holders
+    ∙ edited_in_place c.self.inside.holders.holders c.args.holder.now c.args.day c.args.number c.self.invariant.distinct there
+    ∙ ap (λ b. edited_holder b.holders c.args.holder.now c.args.day) c.self.view_is
 
 pub returns-clause-distinct : goal.returns-clause-distinct
 returns-clause-distinct c = (invariant_of-self c).distinct
