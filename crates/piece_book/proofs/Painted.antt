@@ -12,9 +12,9 @@ use Rattle.reg_entry.specs.declared.card.Status.{Status}
 use Rattle.reg_entry.specs.declared.piece.Piece.{Piece}
 use Rattle.reg_entry.specs.Card.{is_available, plain_card}
 use Rattle.reg_entry.specs.Pieces.{laid, RisesFrom, IsSettled, IsCard, IsInOnePieceOrNone, AllPiecesOf, ArePieces}
-use Rattle.piece_book.specs.GivesWay.{both_available, reach, gives_way, giving_way, first_of, last_from, last_of, ending_at, starting_at, rest_below, new_first, new_card, rest_above, new_last, new_line}
+use Rattle.piece_book.specs.GivesWay.{both_available, reach, gives_way, giving_way, first_of, last_from, last_of, ending_at, starting_at, rest_below, new_first, new_card, rest_above, new_last, new_line, line_of}
 use Rattle.piece_book.specs.Exchange.{IsExchange}
-use Rattle.piece_book.specs.Run.{IsRun}
+use Rattle.piece_book.specs.Run.{AreSeams}
 use Rattle.piece_book.specs.Touched.{IsTouched}
 use Rattle.piece_book.proofs.GivingWay.{LiesAbove, parts, reach_small, way_given, few_give_way}
 use Rattle.piece_book.proofs.Laid.{laid_between, last_gives}
@@ -216,13 +216,13 @@ shared_run r c (p ∷ ps) x h each gives goes comes = shared r c p ps x h each g
 -- ---- the whole painting
 
 pub record IsPainted (r : PlainRange) (c : Card) (ps : List Piece) : Type 0 where
-  pub count : length (laid ps r c) + length (giving_way r c.status ps) ≡ length ps + length (new_line r c (first_of (giving_way r c.status ps)) (last_of (giving_way r c.status ps)))
-  pub same : giving_way r c.status ps ≡ new_line r c (first_of (giving_way r c.status ps)) (last_of (giving_way r c.status ps)) → laid ps r c ≡ ps
+  pub count : length (laid ps r c) + length (giving_way r c.status ps) ≡ length ps + length (line_of r c ps)
+  pub same : giving_way r c.status ps ≡ line_of r c ps → laid ps r c ≡ ps
   pub exchange : RisesFrom 0 (laid ps r c)
-      → IsExchange (giving_way r c.status ps) (new_line r c (first_of (giving_way r c.status ps)) (last_of (giving_way r c.status ps))) ps (laid ps r c)
+      → IsExchange (giving_way r c.status ps) (line_of r c ps) ps (laid ps r c)
   pub touched : RisesFrom 0 (laid ps r c)
-      → ((x : Piece) → giving_way r c.status ps ≡ x ∷ [] → new_line r c (first_of (giving_way r c.status ps)) (last_of (giving_way r c.status ps)) ≡ x ∷ [] → ⊥)
-      → IsTouched ps (laid ps r c) (giving_way r c.status ps) (new_line r c (first_of (giving_way r c.status ps)) (last_of (giving_way r c.status ps)))
+      → ((x : Piece) → giving_way r c.status ps ≡ x ∷ [] → line_of r c ps ≡ x ∷ [] → ⊥)
+      → IsTouched ps (laid ps r c) (giving_way r c.status ps) (line_of r c ps)
 
 -- the first of what comes begins no higher than what goes
 line_starts : (r : PlainRange) (c : Card) (low high : Option Piece)
@@ -279,8 +279,8 @@ line_below r s [] [] p ordered h above low first = tt
 line_below r s [] (b ∷ back) p ordered h above low first = (omega (arith, above.0), h.1, h.2)
 line_below r s (q ∷ run) back p ordered h above low first = (first q refl, h.1, h.2)
 
-pub painted : (space : Space) (ps : List Piece) (r : PlainRange) (c : Card) → ArePieces space ps → r.space ≡ space → r.first ≤ r.last → IsPainted r c ps
-painted space ps r c h of_space ordered =
+pub painted : (ps : List Piece) (r : PlainRange) (c : Card) → ArePieces r.space ps → r.first ≤ r.last → IsPainted r c ps
+painted ps r c h ordered =
     let s : Status = c.status in
     let parted = parts 0 r s ps ordered h.rises in
     let run : List Piece = giving_way r s ps in
@@ -288,10 +288,8 @@ painted space ps r c h of_space ordered =
     let whole : ps ≡ parted.front ++ (run ++ parted.back) = parted.whole in
     let rises : RisesFrom 0 (parted.front ++ (run ++ parted.back)) = subst (λ (xs : List Piece). RisesFrom 0 xs) whole h.rises in
     let gives : AllByRecursion (λ p. gives_way r s p ≡ true) run = recursion_from_All (λ p. gives_way r s p ≡ true) run (filter_passes (gives_way r s) ps) in
-    let behind : AllPiecesOf space (run ++ parted.back) =
-    pieces_behind space parted.front (run ++ parted.back) (subst (λ (xs : List Piece). AllPiecesOf space xs) whole h.each) in
-    let spaces : AllByRecursion (λ p. p.range.space ≡ r.space) run =
-    subst (λ (x : Space). AllByRecursion (λ p. p.range.space ≡ x) run) (sym of_space) (spaces_of space run parted.back behind) in
+    let behind = pieces_behind r.space parted.front (run ++ parted.back) (subst (λ (xs : List Piece). AllPiecesOf r.space xs) whole h.each) in
+    let spaces = spaces_of r.space run parted.back behind in
     let after : laid ps r c ≡ parted.front ++ (line ++ parted.back) =
     ap (λ (xs : List Piece). laid xs r c) whole
     ∙ laid_between r c parted.front run parted.back ordered rises (subst (λ (xs : List Piece). IsSettled xs) whole h.settled) parted.below gives parted.above spaces in
@@ -377,54 +375,50 @@ last_space space r s ps p h e = go (giving_way r s ps) (each_given space r s ps 
     go (q ∷ run) k e = let same : last_from q run ≡ p = cc e in subst (λ (x : Piece). x.range.space ≡ space) same (from q run k)
 
 -- how many pieces there are after, by the rests at the two ends
-pub count_laid : (space : Space) (ps : List Piece) (r : PlainRange) (s : Status) (c : Card) (first last low high : Option Piece) (count : ℕ) (few : List Piece)
-    → ArePieces space ps → r.space ≡ space → r.first ≤ r.last → c.status ≡ s → IsRun (giving_way r s ps) first last count few
-    → low ≡ rest_below r s first → high ≡ rest_above r s last
+pub count_laid : (ps : List Piece) (r : PlainRange) (s : Status) (c : Card) (low high : Option Piece) (first last count : ℕ) (few : List Piece)
+    → ArePieces r.space ps → r.first ≤ r.last → c.status ≡ s → AreSeams r s (giving_way r s ps) low first high last count few
     → length (laid ps r c) + count ≡ length ps + (length (option_to_list low) + 1 + length (option_to_list high))
-count_laid space ps r s c first last low high count few h of_space ordered e run f g =
-    let is = subst (λ (x : Status). IsRun (giving_way r x ps) first last count few) (sym e) run in
-    let low_is : low ≡ rest_below r c.status (first_of (giving_way r c.status ps)) =
-    f ∙ ap (λ (x : Status). rest_below r x first) (sym e) ∙ ap (λ (o : Option Piece). rest_below r c.status o) is.first_is in
-    let high_is : high ≡ rest_above r c.status (last_of (giving_way r c.status ps)) =
-    g ∙ ap (λ (x : Status). rest_above r x last) (sym e) ∙ ap (λ (o : Option Piece). rest_above r c.status o) is.last_is in
-    let all = (painted space ps r c h of_space ordered).count in
-    let line = length-append (option_to_list (rest_below r c.status (first_of (giving_way r c.status ps))))
+count_laid ps r s c low high first last count few h ordered e seams =
+    let is = subst (λ (x : Status). AreSeams r x (giving_way r x ps) low first high last count few) (sym e) seams in
+    let all = (painted ps r c h ordered).count in
+    let run : List Piece = giving_way r c.status ps in
+    let line = length-append (option_to_list (rest_below r c.status (first_of run)))
     (record {
-      range = record { space = r.space; first = new_first r c.status (first_of (giving_way r c.status ps)); last = new_last r c.status (last_of (giving_way r c.status ps)) };
-      card = new_card r c (first_of (giving_way r c.status ps));
-    } ∷ option_to_list (rest_above r c.status (last_of (giving_way r c.status ps)))) in
-    let low_count = ap (λ (o : Option Piece). length (option_to_list o)) low_is in
-    let high_count = ap (λ (o : Option Piece). length (option_to_list o)) high_is in
+      range = record { space = r.space; first = new_first r c.status (first_of run); last = new_last r c.status (last_of run) };
+      card = new_card r c (first_of run);
+    } ∷ option_to_list (rest_above r c.status (last_of run))) in
+    let low_count = ap (λ (o : Option Piece). length (option_to_list o)) is.low_is in
+    let high_count = ap (λ (o : Option Piece). length (option_to_list o)) is.high_is in
     omega (arith, is.count_is)
 
--- the run that was noted, and the line that was built from its ends
+-- the line that is built from the seams
+abbrev line_from : PlainRange → Card → Option Piece → ℕ → Option Piece → ℕ → List Piece
+line_from r c low first high last =
+    option_to_list low ++ (record { range = record { space = r.space; first = first; last = last }; card = c } ∷ option_to_list high)
+
+-- the run that was noted, and the line that was built
 pub record IsBuilt (r : PlainRange) (c : Card) (ps gone come : List Piece) : Type 0 where
   pub gone_is : gone ≡ giving_way r c.status ps
-  pub come_is : come ≡ new_line r c (first_of (giving_way r c.status ps)) (last_of (giving_way r c.status ps))
+  pub come_is : come ≡ line_of r c ps
 
-pub built : (space : Space) (ps : List Piece) (r q : PlainRange) (c : Card) (first last low high : Option Piece) (count low_end high_end : ℕ) (few come : List Piece)
-    → ArePieces space ps → r.space ≡ space → r.first ≤ r.last → IsCard c → IsInOnePieceOrNone ps r → IsRun (giving_way r c.status ps) first last count few
-    → low ≡ rest_below r c.status first → high ≡ rest_above r c.status last → low_end ≡ new_first r c.status first → high_end ≡ new_last r c.status last
-    → q ≡ record { space = r.space; first = low_end; last = high_end }
-    → come ≡ option_to_list low ++ (record { range = q; card = c } ∷ option_to_list high)
+pub built : (ps : List Piece) (r q : PlainRange) (c : Card) (low high : Option Piece) (first last count : ℕ) (few come : List Piece)
+    → ArePieces r.space ps → r.first ≤ r.last → IsCard c → IsInOnePieceOrNone ps r → AreSeams r c.status (giving_way r c.status ps) low first high last count few
+    → q ≡ record { space = r.space; first = first; last = last } → come ≡ option_to_list low ++ (record { range = q; card = c } ∷ option_to_list high)
     → IsBuilt r c ps few come
-built space ps r q c first last low high count low_end high_end few come h of_space ordered plain one run f g m n e line =
+built ps r q c low high first last count few come h ordered plain one seams e line =
     let s : Status = c.status in
-    let is_few = few_give_way 0 r s ps ordered h.rises one in
-    let range : q ≡ record { space = r.space; first = new_first r s (first_of (giving_way r s ps)); last = new_last r s (last_of (giving_way r s ps)) } =
-    e
-    ∙ ap (λ (x : ℕ). let y : PlainRange = record { space = r.space; first = x; last = high_end } in y) (m ∙ ap (λ (o : Option Piece). new_first r s o) run.first_is)
-    ∙ ap (λ (x : ℕ). let y : PlainRange = record { space = r.space; first = new_first r s (first_of (giving_way r s ps)); last = x } in y) (n ∙ ap (λ (o : Option Piece). new_last r s o) run.last_is) in
+    let run : List Piece = giving_way r s ps in
+    let low' : Option Piece = rest_below r s (first_of run) in
+    let high' : Option Piece = rest_above r s (last_of run) in
     record {
-      gone_is = run.few_is ∙ take_all 3 (giving_way r s ps) is_few;
+      gone_is = seams.few_is ∙ take_all 3 run (few_give_way 0 r s ps ordered h.rises one);
       come_is = line
-          ∙ ap (λ (o : Option Piece). option_to_list o ++ (record { range = q; card = c } ∷ option_to_list high)) (f ∙ ap (λ (o : Option Piece). rest_below r s o) run.first_is)
-          ∙ ap (λ (o : Option Piece). option_to_list (rest_below r s (first_of (giving_way r s ps))) ++ (record { range = q; card = c } ∷ option_to_list o))
-          (g ∙ ap (λ (o : Option Piece). rest_above r s o) run.last_is)
-          ∙ ap (λ (x : PlainRange). option_to_list (rest_below r s (first_of (giving_way r s ps))) ++ (record { range = x; card = c } ∷ option_to_list (rest_above r s (last_of (giving_way r s ps))))) range
-          ∙ ap (λ (d : Card). option_to_list (rest_below r s (first_of (giving_way r s ps)))
-          ++ (record { range = record { space = r.space; first = new_first r s (first_of (giving_way r s ps)); last = new_last r s (last_of (giving_way r s ps)) }; card = d }
-          ∷ option_to_list (rest_above r s (last_of (giving_way r s ps))))) (sym (one_card space ps r c h plain));
+          ∙ ap (λ (x : PlainRange). option_to_list low ++ (record { range = x; card = c } ∷ option_to_list high)) e
+          ∙ ap (λ (o : Option Piece). line_from r c o first high last) seams.low_is
+          ∙ ap (λ (n : ℕ). line_from r c low' n high last) seams.first_is
+          ∙ ap (λ (o : Option Piece). line_from r c low' (new_first r s (first_of run)) o last) seams.high_is
+          ∙ ap (λ (n : ℕ). line_from r c low' (new_first r s (first_of run)) high' n) seams.last_is
+          ∙ ap (λ (d : Card). line_from r d low' (new_first r s (first_of run)) high' (new_last r s (last_of run))) (sym (one_card r.space ps r c h plain));
     }
 
 -- the whole of what a painting says
@@ -432,18 +426,18 @@ pub record IsPaintedBy (r : PlainRange) (c : Card) (ps gone come : List Piece) :
   pub exchange : IsExchange gone come ps (laid ps r c)
   pub touched : IsTouched ps (laid ps r c) gone come
 
-pub changed : (space : Space) (ps : List Piece) (r : PlainRange) (c : Card) (gone come : List Piece) → ArePieces space ps → r.space ≡ space → r.first ≤ r.last
+pub changed : (ps : List Piece) (r : PlainRange) (c : Card) (gone come : List Piece) → ArePieces r.space ps → r.first ≤ r.last
     → RisesFrom 0 (laid ps r c) → IsBuilt r c ps gone come → ((x : Piece) → gone ≡ x ∷ [] → come ≡ x ∷ [] → ⊥) → IsPaintedBy r c ps gone come
-changed space ps r c gone come h of_space ordered k is apart =
-    let all = painted space ps r c h of_space ordered in
+changed ps r c gone come h ordered k is apart =
+    let all = painted ps r c h ordered in
     subst (λ (xs : List Piece). IsPaintedBy r c ps xs come) (sym is.gone_is)
     (subst (λ (xs : List Piece). IsPaintedBy r c ps (giving_way r c.status ps) xs) (sym is.come_is)
     (record { exchange = all.exchange k; touched = all.touched k (λ x u v. apart x (is.gone_is ∙ u) (is.come_is ∙ v)) }))
 
-pub unchanged : (space : Space) (ps : List Piece) (r : PlainRange) (c : Card) (gone come : List Piece) → ArePieces space ps → r.space ≡ space → r.first ≤ r.last
+pub unchanged : (ps : List Piece) (r : PlainRange) (c : Card) (gone come : List Piece) → ArePieces r.space ps → r.first ≤ r.last
     → IsBuilt r c ps gone come → gone ≡ come → IsPaintedBy r c ps [] []
-unchanged space ps r c gone come h of_space ordered is same =
-    let stays = (painted space ps r c h of_space ordered).same (sym is.gone_is ∙ same ∙ is.come_is) in
+unchanged ps r c gone come h ordered is same =
+    let stays = (painted ps r c h ordered).same (sym is.gone_is ∙ same ∙ is.come_is) in
     record {
       exchange = subst (λ (xs : List Piece). IsExchange [] [] ps xs) (sym stays) (exchange_of_none ps);
       touched = subst (λ (xs : List Piece). IsTouched ps xs [] []) (sym stays) (touches_nothing ps);

@@ -74,3 +74,7 @@ new_line r c low high =
     option_to_list (rest_below r c.status low)
     ++ record { range = record { space = r.space; first = new_first r c.status low; last = new_last r c.status high }; card = new_card r c low }
     ∷ option_to_list (rest_above r c.status high)
+
+-- what comes in the place of those that give way
+abbrev pub line_of : PlainRange → Card → List Piece → List Piece
+line_of r c ps = new_line r c (first_of (giving_way r c.status ps)) (last_of (giving_way r c.status ps))

@@ -7,7 +7,8 @@ ghost use Rattle.reg_entry.specs.Pieces.{ArePieces, IsCard, IsInOnePieceOrNone, 
 ghost use Rattle.reg_entry.specs.declared.card.Card.{Card};
 ghost use Rattle.reg_entry.specs.declared.piece.Piece.{Piece};
 ghost use Rattle.piece_book.specs.Exchange.{IsExchange};
-ghost use Rattle.piece_book.specs.GivesWay.{new_first, new_last, rest_above, rest_below};
+ghost use Rattle.piece_book.specs.GivesWay.{giving_way, new_first, new_last, rest_above, rest_below};
+ghost use Rattle.piece_book.specs.Run.{AreSeams};
 ghost use Rattle.piece_book.specs.Touched.{IsTouched};
 
 use crate::run::{both_available, giving_way};
@@ -95,6 +96,36 @@ fn high_end(piece: &Option<Piece>, range: &Range, status: Status) -> End
     }
 }
 
+/// The pieces that give way, and what is at the two ends of the range.
+#[derive(Drop)]
+struct Seams {
+    low: End,
+    high: End,
+    /// How many pieces give way.
+    count: u32,
+    /// The first three of them.
+    few: ArrayVec<Piece, 3>,
+}
+
+fn seams_of(book: &SpaceBook, range: &Range, status: Status) -> Seams
+    requires { book.now.space ≡ range.now.space }
+    ensures seams { AreSeams range.now status (giving_way range.now status book.now.pieces) result.low.rest result.low.value
+        result.high.rest result.high.value result.count result.few.items }
+    ensures low { result.low.value ≤ range.now.first }
+    ensures high { range.now.last ≤ result.high.value }
+    ensures top { result.high.value ≤ top_of range.now.space }
+    ensures pieces { ArePieces range.now.space book.now.pieces }
+    ensures valid { IsRange range.now }
+{
+    let run = giving_way(book, range, status);
+    Seams {
+        low: low_end(&run.first, range, status),
+        high: high_end(&run.last, range, status),
+        count: run.count,
+        few: run.few,
+    }
+}
+
 /// How many pieces are left of one.
 fn rest_count(rest: &Option<Piece>) -> u32
     ensures { result ≡ length (option_to_list rest.now) }
@@ -111,10 +142,9 @@ pub(crate) fn count_after(book: &SpaceBook, range: &Range, status: Status) -> u3
     ensures count { (c : Card) → c.status ≡ status → result ≡ length (laid book.now.pieces range.now c) }
     ensures bound { result ≤ length book.now.pieces + 3 }
 {
-    let run = giving_way(book, range, status);
-    let low = low_end(&run.first, range, status);
-    let high = high_end(&run.last, range, status);
-    book.len() - run.count + rest_count(&low.rest) + 1 + rest_count(&high.rest)
+    let seams = seams_of(book, range, status);
+    let new = rest_count(&seams.low.rest) + 1 + rest_count(&seams.high.rest);
+    book.len() - seams.count + new
 }
 
 /// The new piece between what is left of those that it cuts.
@@ -151,15 +181,13 @@ pub(crate) fn painted(book: &SpaceBook, range: &Range, card: &Card) -> Touched
     ensures touched { IsTouched book.now.pieces (laid book.now.pieces range.now card.now) result.before.items result.after.items }
 {
     painting_keeps_pieces();
-    let run = giving_way(book, range, card.status);
-    let low = low_end(&run.first, range, card.status);
-    let high = high_end(&run.last, range, card.status);
+    let seams = seams_of(book, range, card.status);
     let new = Piece {
-        range: Range::between(range.space(), low.value, high.value),
+        range: Range::between(range.space(), seams.low.value, seams.high.value),
         card: *card,
     };
-    let after = lined_up(&low.rest, &new, &high.rest);
-    let before = run.few;
+    let after = lined_up(&seams.low.rest, &new, &seams.high.rest);
+    let before = seams.few;
     if is_one_for_one(&before, &after) {
         return nothing_touched();
     }
