@@ -1,9 +1,10 @@
-pub mod Rising
-pub mod Below
-pub mod Above
+pub mod Exchanging
+pub mod GivingWay
 pub mod Laid
-pub mod Runs
-pub mod Kept
-pub mod Touching
-pub mod Cuts
+pub mod Painted
+pub mod Parted
 pub mod Totals
+pub mod Pairing
+pub mod Finding
+pub mod Collecting
+pub mod Kept

@@ -1,5 +1,5 @@
--- Where a piece may be parted in two, and where two may be made one.
-use Rattle.std.specs.Prelude.{◌≡◌, ℕ, ◌-◌, ◌<◌, false, List, MatchOption}
+-- Where a piece may be parted in two.
+use Rattle.std.specs.Prelude.{◌≡◌, ℕ, ◌<◌, false, List, MatchOption}
 use Rattle.reg_entry.specs.declared.piece.Piece.{Piece}
 use Rattle.reg_entry.specs.Card.{is_available}
 use Rattle.reg_entry.specs.Pieces.{piece_at}
@@ -7,9 +7,3 @@ use Rattle.reg_entry.specs.Pieces.{piece_at}
 -- the number lies in a piece that isn't available, and isn't its first
 abbrev pub IsSplitPlace : List Piece → ℕ → Type 0
 IsSplitPlace ps at = MatchOption (piece_at ps at) ⊥ (λ p. (is_available p.card.status ≡ false) × (p.range.first < at))
-
--- the number is the first of a piece that isn't available, and the number before it lies in a piece of equal card
-abbrev pub IsJoinPlace : List Piece → ℕ → Type 0
-IsJoinPlace ps at =
-    (0 < at) × MatchOption (piece_at ps at) ⊥ (λ q. (is_available q.card.status ≡ false) × (q.range.first ≡ at)
-    × MatchOption (piece_at ps (at - 1)) ⊥ (λ p. p.card ≡ q.card))

@@ -1,6 +1,9 @@
 pub mod Book
-pub mod Room
-pub mod Seams
-pub mod Touched
 pub mod Cutting
-pub mod Places
+pub mod Exchange
+pub mod GivesWay
+pub mod Pairs
+pub mod Room
+pub mod Run
+pub mod SpaceBook
+pub mod Touched

@@ -3,18 +3,20 @@ ghost use Rattle.std.specs.Option.{option_map};
 ghost use Rattle.reg_entry.specs.declared.card.Card.{Card};
 ghost use Rattle.reg_entry.specs.declared.piece.Piece.{Piece};
 ghost use Rattle.reg_entry.specs.Pieces.{ArePieces, IsCard, IsInOnePieceOrNone, IsPoolRange, piece_at, first_met, overlap, laid};
-ghost use Rattle.piece_book.specs.Cutting.{IsJoinPlace, IsSplitPlace};
-ghost use Rattle.reg_entry.specs.Reshaping.{joined_at, split_at_number};
+ghost use Rattle.reg_entry.specs.Reshaping.{CanJoinAt, joined_at, split_at_number};
 ghost use Rattle.reg_entry.specs.Sums.{status_sum};
-ghost use Rattle.piece_book.specs.Touched.{IsTouched};
 ghost use Rattle.reg_entry.specs.Partition.{empty_partition, pieces_in, with_pieces, piece_count, IsPartition};
+ghost use Rattle.piece_book.specs.Cutting.{IsSplitPlace};
+ghost use Rattle.piece_book.specs.Exchange.{exchanged, place_of};
+ghost use Rattle.piece_book.specs.Pairs.{pieces_of_pairs};
+ghost use Rattle.piece_book.specs.Touched.{IsTouched};
 
-use crate::PieceWalk;
-use crate::cutting::{join, split};
-use crate::laying::{count_after, lay};
-use crate::search::first_between;
-use crate::sums::status_sum;
+use crate::painting::{count_after, painted};
+use crate::parting::{made_one, parted};
+use crate::space_book::SpaceBook;
+use crate::{Part, PieceWalk};
 use num_range::{Number, Range, Space};
+use page_dir::PageDir;
 use reg_entry::{Card, Piece, Status, Touched};
 use std::alloc::{AllocError, Global};
 use std::marker::Model;
@@ -22,22 +24,21 @@ use std::marker::Model;
 /// The pieces of the three spaces. Making one takes memory, and nothing after that does.
 #[derive(Drop)]
 pub struct PieceBook {
-    asn: Vec<Piece>,
-    ipv4: Vec<Piece>,
-    ipv6: Vec<Piece>,
+    asn: SpaceBook,
+    ipv4: SpaceBook,
+    ipv6: SpaceBook,
     room: u32,
 }
 
 impl Model for PieceBook {
-    ghost use Rattle.std.specs.Prelude.{vec_capacity};
     ghost use Rattle.piece_book.specs.Book.{PlainBook};
-    ghost use Rattle.piece_book.specs.Room.{IsReserved};
+    ghost use Rattle.piece_book.specs.Room.{IsReserved, partition_of};
 
     ghost Value = { PlainBook };
 
-    ghost view = { λ b. record { partition = record { asn = b.asn.items; ipv4 = b.ipv4.items; ipv6 = b.ipv6.items }; room = b.room } };
+    ghost view = { λ b. record { partition = partition_of b.asn b.ipv4 b.ipv6; room = b.room } };
 
-    ghost invariant = { λ b. IsReserved (record { partition = record { asn = b.asn.items; ipv4 = b.ipv4.items; ipv6 = b.ipv6.items }; room = b.room }) (vec_capacity b.asn) (vec_capacity b.ipv4) (vec_capacity b.ipv6) };
+    ghost invariant = { λ b. IsReserved b.asn b.ipv4 b.ipv6 b.room };
 }
 
 impl PieceBook {
@@ -48,16 +49,17 @@ impl PieceBook {
         ensures { IfOk result (λ book. book ≡ record { partition = empty_partition; room = room }) }
     {
         Ok(PieceBook {
-            asn: Vec::with_capacity(alloc, room as usize)?,
-            ipv4: Vec::with_capacity(alloc, room as usize)?,
-            ipv6: Vec::with_capacity(alloc, room as usize)?,
+            asn: SpaceBook::with_room(alloc, Space::Asn, room)?,
+            ipv4: SpaceBook::with_room(alloc, Space::Ipv4, room)?,
+            ipv6: SpaceBook::with_room(alloc, Space::Ipv6, room)?,
             room,
         })
     }
 
-    fn in_space(&self, space: Space) -> &[Piece]
-        ensures pieces { result.now ≡ pieces_in self.now.partition space }
-        ensures valid { ArePieces space result.now }
+    fn in_space(&self, space: Space) -> &SpaceBook
+        ensures pieces { result.now.pieces ≡ pieces_in self.now.partition space }
+        ensures space { result.now.space ≡ space }
+        ensures valid { ArePieces space result.now.pieces }
     {
         match space {
             Space::Asn => &self.asn,
@@ -66,8 +68,15 @@ impl PieceBook {
         }
     }
 
+    /// The pieces of a space, each under its first number.
+    pub fn directory(&self, space: Space) -> &PageDir<u128, Part>
+        ensures { pieces_of_pairs space result.now.pairs ≡ pieces_in self.now.partition space }
+    {
+        self.in_space(space).directory()
+    }
+
     /// How many pieces there are in the other spaces.
-    fn elsewhere(&self, space: Space) -> usize
+    fn elsewhere(&self, space: Space) -> u32
         ensures count { (ps : List Piece) → piece_count (with_pieces self.now.partition space ps) ≡ result + length ps }
         ensures bound { result + length (pieces_in self.now.partition space) ≤ 2 ^ 30 }
     {
@@ -93,7 +102,7 @@ impl PieceBook {
         ensures within { piece_count self.now.partition ≤ self.now.room }
         ensures valid { IsPartition self.now.partition }
     {
-        (self.asn.len() + self.ipv4.len() + self.ipv6.len()) as u32
+        self.asn.len() + self.ipv4.len() + self.ipv6.len()
     }
 
     /// How many pieces there may be in all.
@@ -108,14 +117,14 @@ impl PieceBook {
     pub fn piece_at(&self, n: Number) -> Option<Piece>
         ensures { result ≡ piece_at (pieces_in self.now.partition n.space) n.value }
     {
-        first_between(self.in_space(n.space()), n.value(), n.value())
+        self.in_space(n.space()).piece_at(n.value())
     }
 
     /// The first piece that has a number in common with the range.
     pub fn first_met(&self, range: &Range) -> Option<Piece>
         ensures { result ≡ first_met (pieces_in self.now.partition range.now.space) range.now }
     {
-        first_between(self.in_space(range.space()), range.first(), range.last())
+        self.in_space(range.space()).first_between(range.first(), range.last())
     }
 
     /// The least number of the range that the pool has.
@@ -124,7 +133,7 @@ impl PieceBook {
             (overlap (pieces_in self.now.partition range.now.space) range.now) }
     {
         let (first, last) = (range.first(), range.last());
-        let piece = first_between(self.in_space(range.space()), first, last)?;
+        let piece = self.in_space(range.space()).first_between(first, last)?;
         Some(Number::of(range.space(), first.max(piece.range.first())))
     }
 
@@ -134,7 +143,25 @@ impl PieceBook {
             → result ≡ piece_count (with_pieces self.now.partition range.now.space (laid (pieces_in self.now.partition range.now.space) range.now c)) }
     {
         let count = count_after(self.in_space(range.space()), range, status);
-        (self.elsewhere(range.space()) + count) as u32
+        self.elsewhere(range.space()) + count
+    }
+
+    /// In one space the pieces that go give way to those that come.
+    fn exchange(&mut self, space: Space, change: &Touched)
+        requires there { place_of change.now.after.items (pieces_in self.old.partition space) + length change.now.before.items
+            ≤ length (pieces_in self.old.partition space) }
+        requires pieces { ArePieces space (exchanged change.now.before.items change.now.after.items (pieces_in self.old.partition space)) }
+        requires room { piece_count (with_pieces self.old.partition space
+            (exchanged change.now.before.items change.now.after.items (pieces_in self.old.partition space))) ≤ self.old.room }
+        ensures pieces { self.new.partition ≡ with_pieces self.old.partition space
+            (exchanged change.now.before.items change.now.after.items (pieces_in self.old.partition space)) }
+        ensures room { self.new.room ≡ self.old.room }
+    {
+        match space {
+            Space::Asn => self.asn.exchange(change),
+            Space::Ipv4 => self.ipv4.exchange(change),
+            Space::Ipv6 => self.ipv6.exchange(change),
+        }
     }
 
     /// Paints the card over the range, and joins the available pieces that touch then.
@@ -148,11 +175,10 @@ impl PieceBook {
         ensures touched { IsTouched (pieces_in self.old.partition range.now.space) (pieces_in self.new.partition range.now.space)
             result.before.items result.after.items }
     {
-        match range.space() {
-            Space::Asn => lay(&mut self.asn, range, card),
-            Space::Ipv4 => lay(&mut self.ipv4, range, card),
-            Space::Ipv6 => lay(&mut self.ipv6, range, card),
-        }
+        let space = range.space();
+        let touched = painted(self.in_space(space), range, card);
+        self.exchange(space, &touched);
+        touched
     }
 
     /// Parts the piece that holds the number in two, before the number.
@@ -165,36 +191,31 @@ impl PieceBook {
         ensures touched { IsTouched (pieces_in self.old.partition at.space) (pieces_in self.new.partition at.space)
             result.before.items result.after.items }
     {
-        let space = at.space();
-        match space {
-            Space::Asn => split(&mut self.asn, space, at.value()),
-            Space::Ipv4 => split(&mut self.ipv4, space, at.value()),
-            Space::Ipv6 => split(&mut self.ipv6, space, at.value()),
-        }
+        let touched = parted(self.in_space(at.space()), at.value());
+        self.exchange(at.space(), &touched);
+        touched
     }
 
     /// Makes one of the piece that begins at the number and the one before it.
     pub fn join(&mut self, at: Number) -> Touched
-        requires { IsJoinPlace (pieces_in self.old.partition at.space) at.value }
+        requires { CanJoinAt (pieces_in self.old.partition at.space) at.value }
         ensures pieces { self.new.partition ≡ with_pieces self.old.partition at.space
             (joined_at (pieces_in self.old.partition at.space) at.value) }
         ensures room { self.new.room ≡ self.old.room }
         ensures touched { IsTouched (pieces_in self.old.partition at.space) (pieces_in self.new.partition at.space)
             result.before.items result.after.items }
     {
-        let space = at.space();
-        match space {
-            Space::Asn => join(&mut self.asn, space, at.value()),
-            Space::Ipv4 => join(&mut self.ipv4, space, at.value()),
-            Space::Ipv6 => join(&mut self.ipv6, space, at.value()),
-        }
+        self.are_pieces();
+        let touched = made_one(self.in_space(at.space()), at.value());
+        self.exchange(at.space(), &touched);
+        touched
     }
 
     /// How many numbers of the space have the status.
     pub fn sum(&self, space: Space, status: Status) -> u128
         ensures { result ≡ status_sum (pieces_in self.now.partition space) status }
     {
-        status_sum(self.in_space(space), status)
+        self.in_space(space).sum(status)
     }
 
     /// The pieces of a space, rising.
@@ -202,6 +223,6 @@ impl PieceBook {
         ensures pieces { result ≡ pieces_in self.now.partition space }
         ensures valid { ArePieces space result }
     {
-        PieceWalk::over(self.in_space(space))
+        self.in_space(space).walk()
     }
 }

@@ -2,9 +2,11 @@
 #![tactic(auto)]
 
 mod book;
-mod cutting;
-mod laying;
-mod search;
+mod painting;
+mod part;
+mod parting;
+mod run;
+mod space_book;
 mod sums;
 #[cfg(test)]
 mod tests;
@@ -12,5 +14,6 @@ mod touched;
 mod walk;
 
 pub use book::PieceBook;
+pub use part::Part;
 pub use reg_entry::Touched;
 pub use walk::PieceWalk;

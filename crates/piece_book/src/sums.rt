@@ -1,6 +1,7 @@
 ghost use Rattle.std.specs.Prelude.{◌≡◌, ◌<◌, ◌^◌};
 ghost use Rattle.reg_entry.specs.Sums.{has_status, status_sum};
 
+use crate::PieceWalk;
 use reg_entry::{Piece, Status};
 
 fn has_status(piece: &Piece, status: Status) -> bool
@@ -10,13 +11,13 @@ fn has_status(piece: &Piece, status: Status) -> bool
 }
 
 /// How many numbers the pieces of the status have.
-pub(crate) fn status_sum(pieces: &[Piece], status: Status) -> u128
-    requires { status_sum pieces.now status < 2 ^ 128 }
-    ensures { result ≡ status_sum pieces.now status }
+pub(crate) fn status_sum(pieces: PieceWalk<'_>, status: Status) -> u128
+    requires { status_sum pieces status < 2 ^ 128 }
+    ensures { result ≡ status_sum pieces.entry status }
 {
     let mut sum = 0;
     for piece in pieces {
-        if has_status(piece, status) {
+        if has_status(&piece, status) {
             sum += piece.range.size();
         }
     }

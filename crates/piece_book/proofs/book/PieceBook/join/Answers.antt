@@ -1,33 +1,19 @@
-use Rattle.std.proofs.Common.{◌≤◌, ◌+◌, ℕ, length, subst, arith}
+use Rattle.std.proofs.Common.{◌≡◌, ◌+◌, List, length, sym, ◌∙◌, ap, subst, arith}
 use Rattle.num_range.specs.declared.space.Space.{Space}
-use Rattle.num_range.specs.declared.space.Space.TheVariants.{Asn, Ipv4, Ipv6}
-use Rattle.reg_entry.specs.Pieces.{ArePieces}
-use Rattle.piece_book.proofs.Kept.{reserved_with}
+use Rattle.reg_entry.specs.declared.piece.Piece.{Piece}
+use Rattle.reg_entry.specs.Partition.{pieces_in}
+use Rattle.piece_book.specs.Exchange.{exchanged}
+use Rattle.piece_book.proofs.Kept.{count_with}
 use Rattle.piece_book.proofs.book.PieceBook.join.Goals as goal
 
-same : (n : ℕ) → n ≤ n
-same n = omega arith
-
-pub invariant_of-self : goal.invariant_of-self
-invariant_of-self c =
-    let pieces = subst (λ (s : Space). ArePieces s c.join.new.pieces.items) c.in-Asn.is c.join.ensures.pieces in
-    let room = c.self.invariant.within in
-    let count = c.join.ensures.count in
-    let fits : length c.join.new.pieces.items + length c.self.inside.ipv4.items + length c.self.inside.ipv6.items ≤ c.self.inside.room = omega arith in
-    reserved_with _ Asn c.join.new.pieces.items _ _ _ _ _ _ c.self.invariant pieces fits c.join.ensures.capacity (same _) (same _)
-
-pub invariant_of-self-in-Ipv4 : goal.invariant_of-self-in-Ipv4
-invariant_of-self-in-Ipv4 c =
-    let pieces = subst (λ (s : Space). ArePieces s c.join-in-Ipv4.new.pieces.items) c.in-Ipv4.is c.join-in-Ipv4.ensures.pieces in
-    let room = c.self.invariant.within in
-    let count = c.join-in-Ipv4.ensures.count in
-    let fits : length c.self.inside.asn.items + length c.join-in-Ipv4.new.pieces.items + length c.self.inside.ipv6.items ≤ c.self.inside.room = omega arith in
-    reserved_with _ Ipv4 c.join-in-Ipv4.new.pieces.items _ _ _ _ _ _ c.self.invariant pieces fits (same _) c.join-in-Ipv4.ensures.capacity (same _)
-
-pub invariant_of-self-in-Ipv6 : goal.invariant_of-self-in-Ipv6
-invariant_of-self-in-Ipv6 c =
-    let pieces = subst (λ (s : Space). ArePieces s c.join-in-Ipv6.new.pieces.items) c.in-Ipv6.is c.join-in-Ipv6.ensures.pieces in
-    let room = c.self.invariant.within in
-    let count = c.join-in-Ipv6.ensures.count in
-    let fits : length c.self.inside.asn.items + length c.self.inside.ipv4.items + length c.join-in-Ipv6.new.pieces.items ≤ c.self.inside.room = omega arith in
-    reserved_with _ Ipv6 c.join-in-Ipv6.new.pieces.items _ _ _ _ _ _ c.self.invariant pieces fits (same _) (same _) c.join-in-Ipv6.ensures.capacity
+pub exchange-requires-clause-room : goal.exchange-requires-clause-room
+exchange-requires-clause-room c =
+    let p = c.args.self.now.partition in
+    let gone = c.made_one-touched.result.before.items in
+    let come = c.made_one-touched.result.after.items in
+    let here = c.in_space.ensures.pieces ∙ ap (λ (s : Space). pieces_in p s) (c.space.ensures ∙ sym c.space-2.ensures) in
+    let after = ap (λ (xs : List Piece). length xs) c.made_one-touched.ensures.exchange.pieces in
+    let fewer : length (exchanged gone come c.in_space.result.now.pieces) + 1 ≡ length c.in_space.result.now.pieces = omega (arith, after, c.made_one-touched.ensures.count) in
+    let fewer_here = subst (λ (ps : List Piece). length (exchanged gone come ps) + 1 ≡ length ps) here fewer in
+    let all = count_with p c.space-2.result (exchanged gone come (pieces_in p c.space-2.result)) in
+    omega (arith, c.are_pieces.ensures.within, fewer_here, all)
