@@ -7,3 +7,11 @@ pub mod Kept
 pub mod Touching
 pub mod Cuts
 pub mod Totals
+pub mod FreeRounding
+pub mod FreePairs
+pub mod FreeClass
+pub mod FreeLeast
+pub mod FreeChange
+pub mod FreeOrder
+pub mod FreeIndexed
+pub mod FreeBlock

@@ -4,3 +4,4 @@ pub mod Seams
 pub mod Touched
 pub mod Cutting
 pub mod Places
+pub mod Free

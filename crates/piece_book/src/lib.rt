@@ -3,6 +3,7 @@
 
 mod book;
 mod cutting;
+mod free;
 mod laying;
 mod search;
 mod sums;
