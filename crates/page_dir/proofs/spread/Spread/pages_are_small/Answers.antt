@@ -1,0 +1,8 @@
+use Rattle.std.proofs.Common.{ap, subst, ◌≤◌, length, ℕ}
+use Rattle.page_dir.specs.Pages.{page_of}
+use Rattle.page_dir.specs.Spread.{PlainSpread, pages_in}
+use Rattle.page_dir.proofs.Spreads.{pages_within}
+use Rattle.page_dir.proofs.spread.Spread.pages_are_small.Goals as goal
+
+pub returns : goal.returns
+returns g c = subst (λ (s : PlainSpread g.row.T.Denot). (i : ℕ) → length (page_of (pages_in s) i) ≤ 64) c.self.view_is (pages_within c.self.invariant)

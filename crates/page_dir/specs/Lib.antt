@@ -1,0 +1,6 @@
+pub mod Directory
+pub mod Pages
+pub mod Searching
+pub mod Sorted
+pub mod Splices
+pub mod Spread

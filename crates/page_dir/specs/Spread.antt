@@ -1,0 +1,47 @@
+-- Pages that a pool holds from the start: some are in use, in an order, and the others wait.
+use Rattle.std.specs.Prelude.{◌≡◌, ℕ, ◌+◌, ◌<◌, ◌≤◌, List, Option, None, Some, length, take}
+use Rattle.slot_pool.specs.Cells.{held}
+use Rattle.slot_pool.specs.Stack.{times}
+use Rattle.page_dir.specs.Pages.{HoldsEnough, joined, page_of, pages_at, or_empty}
+
+pub record PlainSpread (T : Type 0) : Type 0 where
+  pub pool : List (Option (List T))
+  pub order : List ℕ
+  pub spare : ℕ
+
+-- the pages in use
+abbrev pub pages_in : {T : Type 0} → PlainSpread T → List (List T)
+pages_in s = pages_at s.pool s.order
+
+abbrev pub presence : {T : Type 0} → Option T → ℕ
+presence None = 0
+presence (Some _) = 1
+
+-- one equation for each slot says that the slots in use and those that wait differ, and are the live ones
+pub record IsSpread {T : Type 0} (pool : List (Option (List T))) (order waiting : List ℕ) (order_cap waiting_cap tail_cap : ℕ) : Type 0 where
+  pub each : (slot : ℕ) → times slot order + times slot waiting ≡ presence (held pool slot)
+  pub within : (slot : ℕ) → length (or_empty (held pool slot)) ≤ 64
+  pub order_room : length order + length waiting ≤ order_cap
+  pub waiting_room : length order + length waiting ≤ waiting_cap
+  pub tail_room : 64 ≤ tail_cap
+
+-- a place in the pages: within a page, or at its end
+pub record IsPlace {T : Type 0} (pages : List (List T)) (page at : ℕ) : Type 0 where
+  pub there : page ≤ length pages
+  pub within : at ≤ length (page_of pages page)
+
+-- how many items stand before a page
+abbrev pub start : {T : Type 0} → List (List T) → ℕ → ℕ
+start pages page = length (joined (take page pages))
+
+-- the pages below one and those from another on hold enough
+pub record AreTidy {T : Type 0} (pages : List (List T)) (first until : ℕ) : Type 0 where
+  pub below : (i : ℕ) → i < first → HoldsEnough pages i
+  pub above : (i : ℕ) → until ≤ i → i < length pages → HoldsEnough pages i
+
+-- a place before an item, or the end of all pages
+pub record IsWalk {T : Type 0} (pages : List (List T)) (page at : ℕ) : Type 0 where
+  pub filled : (i : ℕ) → i < length pages → 0 < length (page_of pages i)
+  pub there : page ≤ length pages
+  pub inside : page < length pages → at < length (page_of pages page)
+  pub end : page ≡ length pages → at ≡ 0

@@ -1,0 +1,20 @@
+//! A strictly sorted list of pairs in pages of 64, which a pool holds from the start: after the list is made, nothing takes
+//! memory, and a change moves no more than the pages that it meets.
+#![tactic(auto)]
+
+mod directory;
+pub mod laws;
+mod locating;
+mod page;
+mod replacing;
+mod spread;
+mod steps;
+#[cfg(test)]
+mod tests;
+mod tidying;
+mod walk;
+
+pub use directory::PageDir;
+pub use page::Page;
+pub use steps::Steps;
+pub use walk::PageWalk;

@@ -1,0 +1,150 @@
+//! Finding places by halving, first among the pages and then in one of them.
+ghost use Rattle.std.specs.Prelude.{◌≡◌, ℕ, ◌+◌, ◌-◌, ◌*◌, ◌^◌, ◌<◌, ◌≤◌, length};
+ghost use Rattle.std.specs.List.{prefix_len};
+ghost use Rattle.page_dir.specs.Pages.{HoldsEnough, joined, page_of};
+ghost use Rattle.page_dir.specs.Searching.{FailsAt, IsTurn, PassesAt, stands_before};
+ghost use Rattle.page_dir.specs.Sorted.{Rises, rank};
+ghost use Rattle.page_dir.specs.Spread.{IsPlace, IsWalk, pages_in, start};
+
+use crate::Steps;
+use crate::spread::Spread;
+use std::marker::Brand;
+use std::sync::ledger::{Blank, Ledger};
+
+/// Which keys stand before the place that is looked for: those below the key, or those up to it.
+#[derive(Clone, Copy)]
+pub(crate) enum Side {
+    Below,
+    UpTo,
+}
+
+fn stands_before<K: Ord, L: Ledger>(key: &K, limit: &K, side: Side, steps: &mut Steps<L>) -> bool
+    ensures before { result ≡ stands_before K.cmp side limit.now key.now }
+    ensures counted { steps.new ≡ steps.old + 1 }
+{
+    steps.tick();
+    let order = key.cmp(limit);
+    match side {
+        Side::Below => order.is_lt(),
+        Side::UpTo => order.is_le(),
+    }
+}
+
+/// How many pages begin before the place.
+fn pages_before<K: Ord + Copy, V: Copy, L: Ledger>(spread: &Spread<(K, V)>, key: &K, side: Side, steps: &mut Steps<L>) -> usize
+    requires { (i : ℕ) → i < length (pages_in spread.now) → 0 < length (page_of (pages_in spread.now) i) }
+    ensures turn { IsTurn
+        (λ i. PassesAt (λ p. stands_before K.cmp side key.now p.0) (page_of (pages_in spread.now) i) 0)
+        (λ i. FailsAt (λ p. stands_before K.cmp side key.now p.0) (page_of (pages_in spread.now) i) 0)
+        (length (pages_in spread.now)) result }
+    ensures counted { steps.old ≤ steps.new }
+    ensures cost { 2 ^ (steps.new - steps.old) ≤ 2 * length (pages_in spread.now) + 1 }
+{
+    let (mut low, mut high) = (0, spread.len());
+    while low < high {
+        let middle = low + (high - low) / 2;
+        let (first, _) = spread.page(middle)[0];
+        if stands_before(&first, key, side, steps) {
+            low = middle + 1;
+        } else {
+            high = middle;
+        }
+    }
+    low
+}
+
+/// How many pairs of a page stand before the place.
+fn pairs_before<K: Ord + Copy, V: Copy, L: Ledger>(page: &[(K, V)], key: &K, side: Side, steps: &mut Steps<L>) -> usize
+    requires { length page.now ≤ 64 }
+    ensures turn { IsTurn
+        (PassesAt (λ p. stands_before K.cmp side key.now p.0) page.now)
+        (FailsAt (λ p. stands_before K.cmp side key.now p.0) page.now)
+        (length page.now) result }
+    ensures counted { steps.old ≤ steps.new }
+    ensures cost { 2 ^ (steps.new - steps.old) ≤ 2 * length page.now + 1 }
+{
+    let (mut low, mut high) = (0, page.len());
+    while low < high {
+        let middle = low + (high - low) / 2;
+        let (here, _) = page[middle];
+        if stands_before(&here, key, side, steps) {
+            low = middle + 1;
+        } else {
+            high = middle;
+        }
+    }
+    low
+}
+
+/// The page and the place in it behind all pairs that stand before.
+pub(crate) fn locate<K: Ord + Copy, V: Copy, L: Ledger>(spread: &Spread<(K, V)>, key: &K, side: Side, steps: &mut Steps<L>) -> (usize, usize)
+    requires enough { (i : ℕ) → i < length (pages_in spread.now) → HoldsEnough (pages_in spread.now) i }
+    requires rises { Rises K.cmp (joined (pages_in spread.now)) }
+    ensures place { IsPlace (pages_in spread.now) result.0 result.1 }
+    ensures front { result.1 ≡ 0 → result.0 ≡ 0 }
+    ensures before { start (pages_in spread.now) result.0 + result.1
+        ≡ prefix_len (λ p. stands_before K.cmp side key.now p.0) (joined (pages_in spread.now)) }
+    ensures counted { steps.old ≤ steps.new }
+    ensures cost { 2 ^ (steps.new - steps.old) ≤ 256 * (2 * length (joined (pages_in spread.now)) + 1) }
+{
+    let pages = pages_before(spread, key, side, steps);
+    if pages == 0 {
+        return (0, 0);
+    }
+    let at = pairs_before(spread.page(pages - 1), key, side, steps);
+    (pages - 1, at)
+}
+
+/// The place of the first key that is at least this one; nobody counts the comparisons.
+pub(crate) fn place_of<K: Ord + Copy, V: Copy, L: Ledger>(spread: &Spread<(K, V)>, key: &K, blank: Blank) -> (usize, usize)
+    requires name { blank.name ≡ L.name }
+    requires parts { blank.parts ≡ L.parts }
+    requires some { 0 < blank.parts }
+    requires enough { (i : ℕ) → i < length (pages_in spread.now) → HoldsEnough (pages_in spread.now) i }
+    requires rises { Rises K.cmp (joined (pages_in spread.now)) }
+    ensures place { IsPlace (pages_in spread.now) result.0 result.1 }
+    ensures before { start (pages_in spread.now) result.0 + result.1 ≡ rank K.cmp key.now (joined (pages_in spread.now)) }
+{
+    let mut steps = Steps::<L>::new(blank);
+    locate(spread, key, Side::Below, &mut steps)
+}
+
+/// The same place, as one of the next page where it is the end of a page.
+pub(crate) fn forward<T: Copy>(spread: &Spread<T>, i: usize, at: usize) -> (usize, usize)
+    requires { IsPlace (pages_in spread.now) i at }
+    ensures place { IsPlace (pages_in spread.now) result.0 result.1 }
+    ensures same { start (pages_in spread.now) result.0 + result.1 ≡ start (pages_in spread.now) i + at }
+    ensures inside { result.0 < length (pages_in spread.now) → 0 < length (page_of (pages_in spread.now) result.0)
+        → result.1 < length (page_of (pages_in spread.now) result.0) }
+{
+    if i < spread.len() && at == spread.page(i).len() {
+        (i + 1, 0)
+    } else {
+        (i, at)
+    }
+}
+
+/// The pair with the first key that is at least this one, by its page and its place there.
+pub(crate) fn first_from<K: Ord + Copy, V: Copy>(spread: &Spread<(K, V)>, key: &K) -> (usize, usize)
+    requires enough { (i : ℕ) → i < length (pages_in spread.now) → HoldsEnough (pages_in spread.now) i }
+    requires rises { Rises K.cmp (joined (pages_in spread.now)) }
+    ensures place { IsWalk (pages_in spread.now) result.0 result.1 }
+    ensures before { start (pages_in spread.now) result.0 + result.1 ≡ rank K.cmp key.now (joined (pages_in spread.now)) }
+{
+    let (page, at) = place_of::<K, V, Brand>(spread, key, Blank::new(1));
+    forward(spread, page, at)
+}
+
+/// The place where a run of so many pairs begins: at the end of a page only where there is nothing in the run.
+pub(crate) fn run_from<K: Ord + Copy, V: Copy>(spread: &Spread<(K, V)>, key: &K, n: u32) -> (usize, usize)
+    requires enough { (i : ℕ) → i < length (pages_in spread.now) → HoldsEnough (pages_in spread.now) i }
+    requires rises { Rises K.cmp (joined (pages_in spread.now)) }
+    ensures place { IsPlace (pages_in spread.now) result.0 result.1 }
+    ensures before { start (pages_in spread.now) result.0 + result.1 ≡ rank K.cmp key.now (joined (pages_in spread.now)) }
+{
+    let (page, at) = place_of::<K, V, Brand>(spread, key, Blank::new(1));
+    if n == 0 {
+        return (page, at);
+    }
+    forward(spread, page, at)
+}

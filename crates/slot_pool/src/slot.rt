@@ -1,0 +1,17 @@
+use std::marker::Model;
+
+/// Names a place of the pool that gave it out.
+#[derive(Clone, Copy, Debug, PartialEq, Eq)]
+pub struct Slot {
+    pub(crate) index: u32,
+}
+
+impl Model for Slot {
+    ghost use Rattle.std.specs.Prelude.{ℕ};
+
+    ghost Value = { ℕ };
+
+    ghost view = { λ s. s.index };
+
+    ghost inverse = { λ n. record { index = n } };
+}
