@@ -18,7 +18,7 @@ use Rattle.reg_entry.specs.Partition.{Partition, pieces_in, with_pieces, piece_c
 use Rattle.reg_entry.specs.Blocks.{rounded_up, least_block}
 use Rattle.piece_book.specs.Touched.{IsTouched}
 use Rattle.piece_book.specs.declared.free.key.FreeKey.{FreeKey}
-use Rattle.piece_book.specs.Free.{key_cmp, key_of, is_key, free_keys, keys_of_pool, block_class, serves, passing, IsIndexOf, IsExchange, IsLeastFirst, AreCounted, PlainIndex}
+use Rattle.piece_book.specs.Free.{key_cmp, key_of, is_key, free_keys, keys_of_pool, block_class, serves, passing, IsIndexOf, IsPoolChange, IsLeastFirst, AreCounted, PlainIndex}
 use Rattle.piece_book.proofs.FreePairs.{counts-cons, counts_none, none_counted, counted_at, count_all, all_weaker, equal_is}
 use Rattle.piece_book.proofs.FreeChange.{same_key, weight, weight_of, weight_none, free_counts, free_counts-append}
 use Rattle.piece_book.proofs.FreeClass.{IsClass, class_serves, class_within}

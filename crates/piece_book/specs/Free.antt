@@ -77,7 +77,7 @@ pub record IsIndexed (keys : List FreeKey) : Type 0 where
   pub valid : IsPartition pool
 
 -- the index is that of some pool, and what went and what came are what a change of the pieces of a space touched
-pub record IsExchange (index : PlainIndex) (before after : List Piece) : Type 0 where
+pub record IsPoolChange (index : PlainIndex) (before after : List Piece) : Type 0 where
   pub pool : Partition
   pub space : Space
   pub pieces : List Piece

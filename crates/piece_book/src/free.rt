@@ -2,7 +2,7 @@
 ghost use Rattle.std.specs.Prelude.{◌≡◌, ◌+◌, ◌≤◌, ◌<◌, ◌^◌, IfOk, []};
 ghost use Rattle.reg_entry.specs.Blocks.{least_block};
 ghost use Rattle.reg_entry.specs.Partition.{empty_partition, pieces_in, with_pieces};
-ghost use Rattle.piece_book.specs.Free.{IsBlockSize, IsExchange, IsIndexed, IsIndexOf};
+ghost use Rattle.piece_book.specs.Free.{IsBlockSize, IsPoolChange, IsIndexed, IsIndexOf};
 
 mod key;
 mod keys;
@@ -49,8 +49,8 @@ impl FreeIndex {
 
     /// Takes out the pieces that went, and puts in those that came.
     pub(crate) fn exchange(&mut self, before: &[Piece], after: &[Piece])
-        requires { IsExchange self.old before.now after.now }
-        ensures index { (change : IsExchange self.old before.now after.now) → IsIndexOf self.new.keys (with_pieces change.pool change.space change.pieces) }
+        requires { IsPoolChange self.old before.now after.now }
+        ensures index { (change : IsPoolChange self.old before.now after.now) → IsIndexOf self.new.keys (with_pieces change.pool change.space change.pieces) }
         ensures room { self.new.room ≡ self.old.room }
     {
         remove_all(&mut self.keys, before);

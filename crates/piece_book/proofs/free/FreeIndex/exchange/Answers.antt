@@ -5,7 +5,7 @@ use Rattle.reg_entry.specs.declared.piece.Piece.{Piece}
 use Rattle.reg_entry.specs.Pieces.{ArePieces}
 use Rattle.reg_entry.specs.Partition.{Partition, pieces_in, with_pieces, piece_count}
 use Rattle.piece_book.specs.declared.free.key.FreeKey.{FreeKey}
-use Rattle.piece_book.specs.Free.{free_keys, is_key, keys_of_pool, passing, AreCounted, IsExchange, IsIndexOf, PlainIndex}
+use Rattle.piece_book.specs.Free.{free_keys, is_key, keys_of_pool, passing, AreCounted, IsPoolChange, IsIndexOf, PlainIndex}
 use Rattle.piece_book.proofs.FreePairs.{count_all}
 use Rattle.piece_book.proofs.FreeChange.{keys_counted}
 use Rattle.piece_book.proofs.FreeIndexed.{passing_keys, indexed_passing, change_counts, went_was_there, keys_differ, keys_fit, middle_counted, pieces_with}
@@ -28,7 +28,7 @@ record Exchanges (ps : Pairs) (room : ℕ) (before after : List Piece) : Type 0 
   fits : (mid : Pairs) → ((passes : FreeKey → Bool) → passing passes mid + count_by passes (free_keys before) ≡ passing passes ps)
       → length mid + length (free_keys after) ≤ room
 
-exchanges : (index : PlainIndex) (ps : Pairs) (room : ℕ) (before after : List Piece) → index_of ps room ≡ index → IsExchange index before after → Exchanges ps room before after
+exchanges : (index : PlainIndex) (ps : Pairs) (room : ℕ) (before after : List Piece) → index_of ps room ≡ index → IsPoolChange index before after → Exchanges ps room before after
 exchanges index ps room before after view e =
     let any : FreeKey → Bool = λ _. true in
     let next : Partition = with_pieces e.pool e.space e.pieces in
@@ -49,7 +49,7 @@ exchanges index ps room before after view e =
 left_indexed : (index : PlainIndex) (ps mid left : Pairs) (room : ℕ) (before after : List Piece) → index_of ps room ≡ index
     → ((passes : FreeKey → Bool) → passing passes mid + count_by passes (free_keys before) ≡ passing passes ps)
     → ((passes : FreeKey → Bool) → passing passes left ≡ passing passes mid + count_by passes (free_keys after))
-    → (e : IsExchange index before after) → IsIndexOf (map (λ (p : FreeKey × Unit {0}). p.0) left) (with_pieces e.pool e.space e.pieces)
+    → (e : IsPoolChange index before after) → IsIndexOf (map (λ (p : FreeKey × Unit {0}). p.0) left) (with_pieces e.pool e.space e.pieces)
 left_indexed index ps mid left room before after view went came e =
     let indexed : IsIndexOf (map (λ (p : FreeKey × Unit {0}). p.0) ps) e.pool = subst (λ (i : PlainIndex). IsIndexOf i.keys e.pool) (sym view) e.indexed in
     record {
