@@ -13,5 +13,6 @@ mod touched;
 mod walk;
 
 pub use book::PieceBook;
+pub use free::FreeIndex;
 pub use reg_entry::Touched;
 pub use walk::PieceWalk;
