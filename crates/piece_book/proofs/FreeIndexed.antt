@@ -60,6 +60,12 @@ space_within passes pool Ipv6 = omega (arith, pool_counts passes pool)
 
 -- ---- a change of the pieces of a space
 
+-- the pieces of a space in the pool that has others there
+pieces_with : (pool : Partition) (space : Space) (ps : List Piece) → pieces_in (with_pieces pool space ps) space ≡ ps
+pieces_with pool Asn ps = refl
+pieces_with pool Ipv4 ps = refl
+pieces_with pool Ipv6 ps = refl
+
 abbrev joined_counts : (FreeKey → Bool) → List Piece → List Piece → List Piece → ℕ
 joined_counts passes front mid back = count_by passes (free_keys front) + (count_by passes (free_keys mid) + count_by passes (free_keys back))
 
@@ -68,10 +74,14 @@ parts_counts passes ps front mid back e =
     let whole : count_by passes (free_keys ps) ≡ count_by passes (free_keys (front ++ (mid ++ back))) = ap (λ qs. count_by passes (free_keys qs)) e in
     omega (arith, free_counts-append passes front (mid ++ back), free_counts-append passes mid back)
 
-pub change_counts : (passes : FreeKey → Bool) (pool : Partition) (space : Space) (pieces before after : List Piece) → IsTouched (pieces_in pool space) pieces before after
-    → count_by passes (keys_of_pool (with_pieces pool space pieces)) + count_by passes (free_keys before) ≡ count_by passes (keys_of_pool pool) + count_by passes (free_keys after)
-change_counts passes pool space pieces before after h =
-    omega (arith, with_counts passes pool space pieces, parts_counts passes (pieces_in pool space) h.front before h.back h.was, parts_counts passes pieces h.front after h.back h.stands)
+pub change_counts : (passes : FreeKey → Bool) (pool next : Partition) (space : Space) (pieces before after : List Piece) → next ≡ with_pieces pool space pieces
+    → IsTouched (pieces_in pool space) (pieces_in next space) before after
+    → count_by passes (keys_of_pool next) + count_by passes (free_keys before) ≡ count_by passes (keys_of_pool pool) + count_by passes (free_keys after)
+change_counts passes pool next space pieces before after changed h =
+    let same : pieces_in next space ≡ pieces = ap (λ (p : Partition). pieces_in p space) changed ∙ pieces_with pool space pieces in
+    let whole : count_by passes (keys_of_pool next) ≡ count_by passes (keys_of_pool (with_pieces pool space pieces)) = ap (λ (p : Partition). count_by passes (keys_of_pool p)) changed in
+    let there : count_by passes (free_keys (pieces_in next space)) ≡ count_by passes (free_keys pieces) = ap (λ ps. count_by passes (free_keys ps)) same in
+    omega (arith, with_counts passes pool space pieces, parts_counts passes (pieces_in pool space) h.front before h.back h.was, parts_counts passes (pieces_in next space) h.front after h.back h.stands)
 
 pub went_was_there : (passes : FreeKey → Bool) (pool : Partition) (space : Space) (pieces before after : List Piece) → IsTouched (pieces_in pool space) pieces before after
     → count_by passes (free_keys before) ≤ count_by passes (keys_of_pool pool)
@@ -185,9 +195,3 @@ middle_counted space ps front mid back h e =
     let counted : AreCounted (front ++ (mid ++ back)) = subst AreCounted e (pieces_counted space ps h) in
     let P : Piece → Type 0 = λ p. size_of p.range < 2 ^ 128 in
     all_front P mid back (all_behind P front (mid ++ back) counted)
-
--- the pieces of a space in the pool that has others there
-pub pieces_with : (pool : Partition) (space : Space) (ps : List Piece) → pieces_in (with_pieces pool space ps) space ≡ ps
-pieces_with pool Asn ps = refl
-pieces_with pool Ipv4 ps = refl
-pieces_with pool Ipv6 ps = refl

@@ -76,17 +76,20 @@ pub record IsIndexed (keys : List FreeKey) : Type 0 where
   pub indexed : IsIndexOf keys pool
   pub valid : IsPartition pool
 
--- the index is that of some pool, and what went and what came are what a change of the pieces of a space touched
+-- the index is that of some pool, the next pool has other pieces in one space, and what went and what came are what was
+-- touched there
 pub record IsPoolChange (index : PlainIndex) (before after : List Piece) : Type 0 where
   pub pool : Partition
+  pub next : Partition
   pub space : Space
   pub pieces : List Piece
+  pub changed : next ≡ with_pieces pool space pieces
+  pub touched : IsTouched (pieces_in pool space) (pieces_in next space) before after
   pub indexed : IsIndexOf index.keys pool
-  pub touched : IsTouched (pieces_in pool space) pieces before after
-  pub were : IsPartition pool
-  pub are : IsPartition (with_pieces pool space pieces)
+  pub was : IsPartition pool
+  pub is : IsPartition next
   pub fitted : piece_count pool ≤ index.room
-  pub fits : piece_count (with_pieces pool space pieces) ≤ index.room
+  pub fits : piece_count next ≤ index.room
 
 -- ---- the keys in the pages
 

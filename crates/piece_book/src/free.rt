@@ -1,7 +1,7 @@
 //! The index of free blocks: of each available piece, how large an aligned block it has room for, and where the piece begins.
 ghost use Rattle.std.specs.Prelude.{◌≡◌, ◌+◌, ◌≤◌, ◌<◌, ◌^◌, IfOk, []};
 ghost use Rattle.reg_entry.specs.Blocks.{least_block};
-ghost use Rattle.reg_entry.specs.Partition.{empty_partition, pieces_in, with_pieces};
+ghost use Rattle.reg_entry.specs.Partition.{empty_partition, pieces_in};
 ghost use Rattle.piece_book.specs.Free.{IsBlockSize, IsPoolChange, IsIndexed, IsIndexOf};
 
 mod key;
@@ -11,7 +11,7 @@ use key::{FreeKey, class_of_size, gap};
 use keys::{insert_all, least_first, remove_all};
 use num_range::Space;
 use page_dir::PageDir;
-use reg_entry::Piece;
+use reg_entry::Touched;
 use std::alloc::{AllocError, Global};
 use std::marker::Model;
 
@@ -48,13 +48,13 @@ impl FreeIndex {
     }
 
     /// Takes out the pieces that went, and puts in those that came.
-    pub(crate) fn exchange(&mut self, before: &[Piece], after: &[Piece])
-        requires { IsPoolChange self.old before.now after.now }
-        ensures index { (change : IsPoolChange self.old before.now after.now) → IsIndexOf self.new.keys (with_pieces change.pool change.space change.pieces) }
+    pub(crate) fn exchange(&mut self, touched: &Touched)
+        requires { IsPoolChange self.old touched.now.before.items touched.now.after.items }
+        ensures index { (change : IsPoolChange self.old touched.now.before.items touched.now.after.items) → IsIndexOf self.new.keys change.next }
         ensures room { self.new.room ≡ self.old.room }
     {
-        remove_all(&mut self.keys, before);
-        insert_all(&mut self.keys, after);
+        remove_all(&mut self.keys, &touched.before);
+        insert_all(&mut self.keys, &touched.after);
     }
 
     /// The start of the least aligned block of a size, all of whose numbers are available.
