@@ -1,14 +1,20 @@
 //! The search for the block that a delegation takes.
 #![tactic(auto)]
-ghost use Rattle.std.specs.Prelude.{◌≡◌, ◌+◌, ◌-◌, ◌≤◌, ◌<◌, IfSome};
+
+ghost use Rattle.std.specs.Prelude.{◌≡◌, ℕ, ◌+◌, ◌-◌, ◌≤◌, ◌<◌, true, IfSome};
 ghost use Rattle.std.specs.Option.{option_map};
+ghost use Rattle.num_range.specs.declared.space.Space.{Space};
 ghost use Rattle.num_range.specs.declared.space.Space.TheVariants.{Asn};
+ghost use Rattle.num_range.specs.Amount.{amount_size, has_size};
 ghost use Rattle.num_range.specs.Space.{top_of};
 ghost use Rattle.reg_entry.specs.Blocks.{IsLeastBlock, least_block};
 ghost use Rattle.reg_entry.specs.Covers.{range_from};
 ghost use Rattle.reg_entry.specs.Partition.{pieces_in};
 ghost use Rattle.reg_entry.specs.Pieces.{ArePieces};
 ghost use Rattle.fit_search.specs.Sought.{IsSought};
+
+#[cfg(test)]
+mod tests;
 
 use num_range::{Range, Space};
 use piece_book::{PieceBook, PieceWalk};
@@ -24,7 +30,9 @@ fn least_run(pieces: PieceWalk<'_>, size: u128) -> Option<u128>
     ensures { result ≡ least_block pieces.entry Asn size }
 {
     for piece in pieces {
-        if piece.card.status.is_available() && piece.range.last() - piece.range.first() >= size - 1 {
+        if piece.card.status.is_available()
+            && piece.range.last() - piece.range.first() >= size - 1
+        {
             return Some(piece.range.first());
         }
     }
@@ -64,3 +72,8 @@ pub fn least_block(pieces: &PieceBook, space: Space, size: u128) -> Option<Range
     let start = found_start(pieces, space, size)?;
     Some(Range::between(space, start, start + (size - 1)))
 }
+
+/// What a request may ask for at once can be looked for.
+pub fn amounts_are_sought()
+    ensures { (space : Space) (amount : ℕ) → has_size space amount ≡ true → IsSought space (amount_size space amount) }
+{}
