@@ -8,3 +8,11 @@ pub mod Pairing
 pub mod Finding
 pub mod Collecting
 pub mod Kept
+pub mod FreeRounding
+pub mod FreePairs
+pub mod FreeClass
+pub mod FreeLeast
+pub mod FreeChange
+pub mod FreeOrder
+pub mod FreeIndexed
+pub mod FreeBlock

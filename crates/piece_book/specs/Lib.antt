@@ -7,3 +7,4 @@ pub mod Room
 pub mod Run
 pub mod SpaceBook
 pub mod Touched
+pub mod Free

@@ -2,6 +2,7 @@
 #![tactic(auto)]
 
 mod book;
+mod free;
 mod painting;
 mod part;
 mod parting;
@@ -14,6 +15,7 @@ mod touched;
 mod walk;
 
 pub use book::PieceBook;
+pub use free::FreeIndex;
 pub use part::Part;
 pub use reg_entry::Touched;
 pub use walk::PieceWalk;
