@@ -15,3 +15,4 @@ pub mod FreeChange
 pub mod FreeOrder
 pub mod FreeIndexed
 pub mod FreeBlock
+pub mod FreeRows
