@@ -136,14 +136,35 @@ none_of_others space other passes own apart (p ∷ ps) each =
 space_counts : (space : Space) (passes : FreeKey → Bool) → ((key : FreeKey) → passes key ≡ true → space_rank key.space ≡ space_rank space)
     → (pool : Partition) → IsPartition pool → count_by passes (keys_of_pool pool) ≡ sum_by (weight passes) (pieces_in pool space)
 space_counts Asn passes own pool h =
-    omega (arith, pool_counts passes pool, free_counts passes pool.asn, free_counts passes pool.ipv4, free_counts passes pool.ipv6,
-    none_of_others Asn Ipv4 passes own (λ e. omega arith) pool.ipv4 (h.each Ipv4).each, none_of_others Asn Ipv6 passes own (λ e. omega arith) pool.ipv6 (h.each Ipv6).each)
+    omega (
+      arith,
+      pool_counts passes pool,
+      free_counts passes pool.asn,
+      free_counts passes pool.ipv4,
+      free_counts passes pool.ipv6,
+      none_of_others Asn Ipv4 passes own (λ e. omega arith) pool.ipv4 (h.each Ipv4).each,
+      none_of_others Asn Ipv6 passes own (λ e. omega arith) pool.ipv6 (h.each Ipv6).each,
+    )
 space_counts Ipv4 passes own pool h =
-    omega (arith, pool_counts passes pool, free_counts passes pool.asn, free_counts passes pool.ipv4, free_counts passes pool.ipv6,
-    none_of_others Ipv4 Asn passes own (λ e. omega arith) pool.asn (h.each Asn).each, none_of_others Ipv4 Ipv6 passes own (λ e. omega arith) pool.ipv6 (h.each Ipv6).each)
+    omega (
+      arith,
+      pool_counts passes pool,
+      free_counts passes pool.asn,
+      free_counts passes pool.ipv4,
+      free_counts passes pool.ipv6,
+      none_of_others Ipv4 Asn passes own (λ e. omega arith) pool.asn (h.each Asn).each,
+      none_of_others Ipv4 Ipv6 passes own (λ e. omega arith) pool.ipv6 (h.each Ipv6).each,
+    )
 space_counts Ipv6 passes own pool h =
-    omega (arith, pool_counts passes pool, free_counts passes pool.asn, free_counts passes pool.ipv4, free_counts passes pool.ipv6,
-    none_of_others Ipv6 Asn passes own (λ e. omega arith) pool.asn (h.each Asn).each, none_of_others Ipv6 Ipv4 passes own (λ e. omega arith) pool.ipv4 (h.each Ipv4).each)
+    omega (
+      arith,
+      pool_counts passes pool,
+      free_counts passes pool.asn,
+      free_counts passes pool.ipv4,
+      free_counts passes pool.ipv6,
+      none_of_others Ipv6 Asn passes own (λ e. omega arith) pool.asn (h.each Asn).each,
+      none_of_others Ipv6 Ipv4 passes own (λ e. omega arith) pool.ipv4 (h.each Ipv4).each,
+    )
 
 pub least_is_found : (pool : Partition) (space : Space) (size class : ℕ) (ps : Pairs) (least : Option ℕ)
     → IsIndexOf (map (λ (p : FreeKey × Unit {0}). p.0) ps) pool → IsPartition pool → IsClass space size class → IsLeastFirst (serves space class) ps least
@@ -194,8 +215,16 @@ classes_are_small pool ps indexed =
     let large : FreeKey → Bool = λ key. nat_lt 1024 key.class in
     let same = indexed_passing large ps pool indexed in
     let none : passing large ps ≡ 0 =
-    omega (arith, pool_counts large pool, free_counts large pool.asn, free_counts large pool.ipv4, free_counts large pool.ipv6,
-    classes_within pool.asn, classes_within pool.ipv4, classes_within pool.ipv6) in
+    omega (
+      arith,
+      pool_counts large pool,
+      free_counts large pool.asn,
+      free_counts large pool.ipv4,
+      free_counts large pool.ipv6,
+      classes_within pool.asn,
+      classes_within pool.ipv4,
+      classes_within pool.ipv6,
+    ) in
     all_weaker (λ (p : FreeKey × Unit {0}). nat_lt 1024 p.0.class ≡ false) (λ p. p.0.class ≤ 1024) (λ p f. ltb-false 1024 p.0.class f) ps
     (none_counted (λ (p : FreeKey × Unit {0}). nat_lt 1024 p.0.class) ps none)
 

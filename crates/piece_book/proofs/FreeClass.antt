@@ -36,12 +36,12 @@ greatest_is_most zero passes k l t = l
 greatest_is_most (suc n) passes k l t = elim (cases_Bool (passes (suc n))) [
   | inl u ↦ subst (λ b. k ≤ cond b (suc n) (greatest_to n passes)) (sym u) l
   | inr f ↦ subst (λ b. k ≤ cond b (suc n) (greatest_to n passes)) (sym f)
-    (elim (cases_lt k (suc n)) [
-      | inl below ↦ greatest_is_most n passes k (omega arith) t
-      | inr above ↦
-          let same : k ≡ suc n = omega arith in
-          absurd (false≢true (sym f ∙ (sym (ap passes same) ∙ t)))
-    ])
+      (elim (cases_lt k (suc n)) [
+        | inl below ↦ greatest_is_most n passes k (omega arith) t
+        | inr above ↦
+            let same : k ≡ suc n = omega arith in
+            absurd (false≢true (sym f ∙ (sym (ap passes same) ∙ t)))
+      ])
 ]
 
 greatest_is : (n : ℕ) (passes : ℕ → Bool) (g : ℕ) → g ≤ n → passes 0 ≡ true → passes g ≡ true → ((k : ℕ) → g < k → passes k ≡ false) → greatest_to n passes ≡ g

@@ -106,12 +106,14 @@ first_among_more some more ps first f h = record { place = h.place; pair = h.pai
 
 pub none_seen : (space : Space) (from : ℕ) (ps : Pairs) → IsLeastFirst (seen space from from) ps None
 none_seen space from [] = tt
-none_seen space from (p ∷ ps) =
-    (false_from_ne_true (seen space from from p.0) (λ t.
-    let both = and_parts (serves space from p.0) (nat_lt p.0.class from) t in
-    let above = (serves_is space from p.0 both.0).classes in
-    let below = ltb-true p.0.class from both.1 in
-    absurd (omega arith)), none_seen space from ps)
+none_seen space from (p ∷ ps) = (
+  false_from_ne_true (seen space from from p.0) (λ t.
+      let both = and_parts (serves space from p.0) (nat_lt p.0.class from) t in
+      let above = (serves_is space from p.0 both.0).classes in
+      let below = ltb-true p.0.class from both.1 in
+      absurd (omega arith)),
+  none_seen space from ps,
+)
 
 -- ---- one look-up more
 
@@ -149,32 +151,34 @@ module _ (space : Space) (from class : ℕ) (ps : Pairs) (p : FreeKey × Unit {0
 
   pub least_more : (least : Option ℕ) → IsLeastFirst (seen space from class) ps least
       → IsLeastFirst (seen space from (p.0.class + 1)) ps (Some (min p.0.first (unwrap_or least p.0.first)))
-  least_more None h =
-      (p_first (min p.0.first p.0.first) (omega arith),
-      all_both (λ q. seen space from class q.0 ≡ false) (λ q. is_lt (key_cmp q.0 (least_of_class space class)) ≡ false → is_lt (key_cmp q.0 p.0) ≡ false)
-      (λ q. seen space from (p.0.class + 1) q.0 ≡ true → min p.0.first p.0.first ≤ q.0.first)
-      (λ q old next t. elim (cases_lt q.0.class class) [
-        | inl below ↦
-            absurd (false≢true (sym old ∙ seen_from space from class q.0 (and_parts (serves space from q.0) (nat_lt q.0.class (p.0.class + 1)) t).0 below))
-        | inr above ↦ let up : p.0.first ≤ q.0.first = no_less q next t above in omega arith
-      ])
-      ps h (next_from key_order (least_of_class space class) ps p rises found).least)
-  least_more (Some least) h =
-      (elim (cases_lt least p.0.first) [
-        | inl less ↦
-            let same : least ≡ min p.0.first least = omega arith in
-            subst (HasFirst (seen space from (p.0.class + 1)) ps) same (first_among_more (seen space from class) (seen space from (p.0.class + 1)) ps least more_seen h.0)
-        | inr more ↦ p_first (min p.0.first least) (omega arith)
-      ],
-      all_both (λ q. seen space from class q.0 ≡ true → least ≤ q.0.first) (λ q. is_lt (key_cmp q.0 (least_of_class space class)) ≡ false → is_lt (key_cmp q.0 p.0) ≡ false)
-      (λ q. seen space from (p.0.class + 1) q.0 ≡ true → min p.0.first least ≤ q.0.first)
-      (λ q old next t. elim (cases_lt q.0.class class) [
-        | inl below ↦
-            let up : least ≤ q.0.first = old (seen_from space from class q.0 (and_parts (serves space from q.0) (nat_lt q.0.class (p.0.class + 1)) t).0 below) in
-            omega arith
-        | inr above ↦ let up : p.0.first ≤ q.0.first = no_less q next t above in omega arith
-      ])
-      ps h.1 (next_from key_order (least_of_class space class) ps p rises found).least)
+  least_more None h = (
+    p_first (min p.0.first p.0.first) (omega arith),
+    all_both (λ q. seen space from class q.0 ≡ false) (λ q. is_lt (key_cmp q.0 (least_of_class space class)) ≡ false → is_lt (key_cmp q.0 p.0) ≡ false)
+        (λ q. seen space from (p.0.class + 1) q.0 ≡ true → min p.0.first p.0.first ≤ q.0.first)
+        (λ q old next t. elim (cases_lt q.0.class class) [
+          | inl below ↦
+              absurd (false≢true (sym old ∙ seen_from space from class q.0 (and_parts (serves space from q.0) (nat_lt q.0.class (p.0.class + 1)) t).0 below))
+          | inr above ↦ let up : p.0.first ≤ q.0.first = no_less q next t above in omega arith
+        ])
+        ps h (next_from key_order (least_of_class space class) ps p rises found).least,
+  )
+  least_more (Some least) h = (
+    elim (cases_lt least p.0.first) [
+      | inl less ↦
+          let same : least ≡ min p.0.first least = omega arith in
+          subst (HasFirst (seen space from (p.0.class + 1)) ps) same (first_among_more (seen space from class) (seen space from (p.0.class + 1)) ps least more_seen h.0)
+      | inr more ↦ p_first (min p.0.first least) (omega arith)
+    ],
+    all_both (λ q. seen space from class q.0 ≡ true → least ≤ q.0.first) (λ q. is_lt (key_cmp q.0 (least_of_class space class)) ≡ false → is_lt (key_cmp q.0 p.0) ≡ false)
+        (λ q. seen space from (p.0.class + 1) q.0 ≡ true → min p.0.first least ≤ q.0.first)
+        (λ q old next t. elim (cases_lt q.0.class class) [
+          | inl below ↦
+              let up : least ≤ q.0.first = old (seen_from space from class q.0 (and_parts (serves space from q.0) (nat_lt q.0.class (p.0.class + 1)) t).0 below) in
+              omega arith
+          | inr above ↦ let up : p.0.first ≤ q.0.first = no_less q next t above in omega arith
+        ])
+        ps h.1 (next_from key_order (least_of_class space class) ps p rises found).least,
+  )
 
 -- ---- after the last look-up
 
@@ -184,11 +188,12 @@ least_of_all space from class ps None below h =
     all_both (λ q. serves space from q.0 ≡ true → q.0.class < class) (λ q. seen space from class q.0 ≡ false) (λ q. serves space from q.0 ≡ false)
     (λ q b old. false_from_ne_true (serves space from q.0) (λ t. false≢true (sym old ∙ seen_from space from class q.0 t (b t))))
     ps below h
-least_of_all space from class ps (Some least) below h =
-    (first_among_more (seen space from class) (serves space from) ps least (λ key t. (and_parts (serves space from key) (nat_lt key.class class) t).0) h.0,
-    all_both (λ q. serves space from q.0 ≡ true → q.0.class < class) (λ q. seen space from class q.0 ≡ true → least ≤ q.0.first) (λ q. serves space from q.0 ≡ true → least ≤ q.0.first)
-    (λ q b old t. old (seen_from space from class q.0 t (b t)))
-    ps below h.1)
+least_of_all space from class ps (Some least) below h = (
+  first_among_more (seen space from class) (serves space from) ps least (λ key t. (and_parts (serves space from key) (nat_lt key.class class) t).0) h.0,
+  all_both (λ q. serves space from q.0 ≡ true → q.0.class < class) (λ q. seen space from class q.0 ≡ true → least ≤ q.0.first) (λ q. serves space from q.0 ≡ true → least ≤ q.0.first)
+      (λ q b old t. old (seen_from space from class q.0 t (b t)))
+      ps below h.1,
+)
 
 pub least_where_none : (space : Space) (from class : ℕ) (ps : Pairs) (least : Option ℕ) → slice_get ps (rank key_cmp (least_of_class space class) ps) ≡ None
     → IsLeastFirst (seen space from class) ps least → IsLeastFirst (serves space from) ps least

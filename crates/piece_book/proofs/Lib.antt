@@ -16,3 +16,4 @@ pub mod FreeChange
 pub mod FreeOrder
 pub mod FreeIndexed
 pub mod FreeBlock
+pub mod FreeRows

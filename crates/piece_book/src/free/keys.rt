@@ -75,11 +75,7 @@ fn lesser(least: Option<u128>, first: u128) -> u128
 }
 
 /// The least first number among the keys of a space that serve a class. That is one look-up for each class that is there.
-pub(super) fn least_first(
-    keys: &PageDir<FreeKey, ()>,
-    space: Space,
-    class: u32,
-) -> Option<u128>
+pub(super) fn least_first(keys: &PageDir<FreeKey, ()>, space: Space, class: u32) -> Option<u128>
     requires rises { Rises key_cmp keys.now.pairs }
     requires class { class ≤ 1024 }
     requires classes { AllByRecursion (λ p. p.0.class ≤ 1024) keys.now.pairs }
