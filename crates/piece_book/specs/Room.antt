@@ -3,6 +3,7 @@ use Rattle.std.specs.Prelude.{◌≡◌, ℕ, ◌^◌, ◌≤◌}
 use Rattle.num_range.specs.declared.space.Space.{Space}
 use Rattle.num_range.specs.declared.space.Space.TheVariants.{Asn, Ipv4, Ipv6}
 use Rattle.reg_entry.specs.Partition.{Partition, piece_count, IsPartition}
+use Rattle.piece_book.specs.Free.{PlainIndex, IsIndexOf}
 use Rattle.piece_book.specs.SpaceBook.{PlainSpace}
 
 -- the pieces of the three spaces
@@ -21,3 +22,9 @@ pub record IsReserved (asn ipv4 ipv6 : PlainSpace) (room : ℕ) : Type 0 where
   pub asn_is : IsBookOf Asn room asn
   pub ipv4_is : IsBookOf Ipv4 room ipv4
   pub ipv6_is : IsBookOf Ipv6 room ipv6
+
+-- and the index of free blocks is that of these pieces
+pub record IsIndexedBook (asn ipv4 ipv6 : PlainSpace) (free : PlainIndex) (room : ℕ) : Type 0 where
+  pub reserved : IsReserved asn ipv4 ipv6 room
+  pub indexed : IsIndexOf free.keys (partition_of asn ipv4 ipv6)
+  pub free_room : free.room ≡ room

@@ -8,9 +8,11 @@ ghost use Rattle.reg_entry.specs.Sums.{status_sum};
 ghost use Rattle.reg_entry.specs.Partition.{empty_partition, pieces_in, with_pieces, piece_count, IsPartition};
 ghost use Rattle.piece_book.specs.Cutting.{IsSplitPlace};
 ghost use Rattle.piece_book.specs.Exchange.{exchanged, place_of};
+ghost use Rattle.piece_book.specs.Free.{IsIndexOf};
 ghost use Rattle.piece_book.specs.Pairs.{pieces_of_pairs};
 ghost use Rattle.piece_book.specs.Touched.{IsTouched};
 
+use crate::free::FreeIndex;
 use crate::painting::{count_after, painted};
 use crate::parting::{made_one, parted};
 use crate::space_book::SpaceBook;
@@ -27,18 +29,20 @@ pub struct PieceBook {
     asn: SpaceBook,
     ipv4: SpaceBook,
     ipv6: SpaceBook,
+    // Of their available pieces.
+    free: FreeIndex,
     room: u32,
 }
 
 impl Model for PieceBook {
     ghost use Rattle.piece_book.specs.Book.{PlainBook};
-    ghost use Rattle.piece_book.specs.Room.{IsReserved, partition_of};
+    ghost use Rattle.piece_book.specs.Room.{IsIndexedBook, partition_of};
 
     ghost Value = { PlainBook };
 
     ghost view = { λ b. record { partition = partition_of b.asn b.ipv4 b.ipv6; room = b.room } };
 
-    ghost invariant = { λ b. IsReserved b.asn b.ipv4 b.ipv6 b.room };
+    ghost invariant = { λ b. IsIndexedBook b.asn b.ipv4 b.ipv6 b.free b.room };
 }
 
 impl PieceBook {
@@ -52,6 +56,7 @@ impl PieceBook {
             asn: SpaceBook::with_room(alloc, Space::Asn, room)?,
             ipv4: SpaceBook::with_room(alloc, Space::Ipv4, room)?,
             ipv6: SpaceBook::with_room(alloc, Space::Ipv6, room)?,
+            free: FreeIndex::with_room(alloc, room)?,
             room,
         })
     }
@@ -73,6 +78,14 @@ impl PieceBook {
         ensures { pieces_of_pairs space result.now.pairs ≡ pieces_in self.now.partition space }
     {
         self.in_space(space).directory()
+    }
+
+    /// The index of the available pieces, by the blocks that they have room for.
+    pub fn free_blocks(&self) -> &FreeIndex
+        ensures index { IsIndexOf result.now.keys self.now.partition }
+        ensures valid { IsPartition self.now.partition }
+    {
+        &self.free
     }
 
     /// How many pieces there are in the other spaces.
@@ -153,10 +166,14 @@ impl PieceBook {
         requires pieces { ArePieces space (exchanged change.now.before.items change.now.after.items (pieces_in self.old.partition space)) }
         requires room { piece_count (with_pieces self.old.partition space
             (exchanged change.now.before.items change.now.after.items (pieces_in self.old.partition space))) ≤ self.old.room }
+        requires touched { IsTouched (pieces_in self.old.partition space)
+            (exchanged change.now.before.items change.now.after.items (pieces_in self.old.partition space))
+            change.now.before.items change.now.after.items }
         ensures pieces { self.new.partition ≡ with_pieces self.old.partition space
             (exchanged change.now.before.items change.now.after.items (pieces_in self.old.partition space)) }
         ensures room { self.new.room ≡ self.old.room }
     {
+        self.free.exchange(change);
         match space {
             Space::Asn => self.asn.exchange(change),
             Space::Ipv4 => self.ipv4.exchange(change),
