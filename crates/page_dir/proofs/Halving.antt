@@ -31,3 +31,13 @@ read_at test ts i d b h is = subst (λ o. IsSomeAnd o (λ x. test x ≡ b)) (sym
 pub told_at : {T : Type 0} (test : T → Bool) (ts : List T) (i : ℕ) (t : T) (b : Bool) → slice_get ts i ≡ Some t → test t ≡ b
     → IsSomeAnd (slice_get ts i) (λ x. test x ≡ b)
 told_at test ts i t b there is = subst (λ o. IsSomeAnd o (λ x. test x ≡ b)) (sym there) is
+
+-- halving pages and then a page
+pub both_halved : (first then last pages page items : ℕ) → first ≤ then → then ≤ last → 2 ^ (then - first) ≤ 2 * pages + 1 → 2 ^ (last - then) ≤ 2 * page + 1
+    → page ≤ 64 → pages ≤ items → 2 ^ (last - first) ≤ 256 * (2 * items + 1)
+both_halved first then last pages page items le le' one two small few =
+    let sum : last - first ≡ (then - first) + (last - then) = omega arith in
+    let power = ap (λ k. 2 ^ k) sum ∙ pow-add 2 (then - first) (last - then) in
+    let most : 2 ^ (last - then) ≤ 129 = omega (arith, two) in
+    let bound = mul-le-mul_left (2 ^ (then - first)) most in
+    omega (arith, power, bound, one, few)
