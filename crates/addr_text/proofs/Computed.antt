@@ -1,5 +1,5 @@
 -- The definitions that compute give what the grammar spells.
-use Rattle.std.proofs.Common.{◌≡◌, ◌≢◌, ℕ, ◌%◌, ◌<◌, ◌≤◌, ◌^◌, ◌-◌, Bool, true, false, ◌&&◌, ◌==◌, nat_le, List, [], ◌∷◌, ◌++◌, take, drop, All, codes, decimal, Option, None, Some, MatchOption, IfSome, IfNone, inl, inr, refl, sym, ap, ◌∙◌, subst, append_assoc, append-nil, length, arith, take-append-drop, lit≤, ne_eqb, ⊎_elim, ◌⊎◌, true≢false, if◌then◌else◌}
+use Rattle.std.proofs.Common.{◌≡◌, ◌≢◌, ℕ, ◌%◌, ◌<◌, ◌≤◌, ◌^◌, ◌-◌, Bool, true, false, ◌&&◌, ◌==◌, nat_le, List, [], ◌∷◌, ◌++◌, take, drop, All, codes, decimal, Option, None, Some, MatchOption, IfSome, IfNone, inl, inr, refl, sym, ap, ◌∙◌, subst, append_assoc, append-nil, length, arith, take-append-drop, lit≤, ne_eqb, ⊎_elim, ◌⊎◌, if◌then◌else◌}
 use Rattle.std.specs.Option.{option_map, option_and_then, option_or}
 use Rattle.std.specs.Int.{w32, w128, from_be_bytes}
 use Rattle.std.specs.Str.Parse.{digits_value}
@@ -7,7 +7,8 @@ use Rattle.std.specs.Net.Addr.{octets_of}
 use Rattle.std.specs.Net.Grammar.{IsDotted, IsColonHex}
 use Rattle.std.specs.Net.Reader.{Read, whole_value, read_ipv4, read_ipv6}
 use Rattle.std.proofs.lemmas.Slice.Eq.{bytes_eq-Decides}
-use Rattle.std.proofs.lemmas.Bool.Decides.{Decides-and, leb_tells, Decides-eqb, Decides-like, not_from_Decides}
+use Rattle.std.proofs.lemmas.Bool.{leb-true, le-leb}
+use Rattle.std.proofs.lemmas.Bool.Decides.{Decides-and, Decides-eqb, Decides-like, not_from_Decides}
 use Rattle.std.proofs.lemmas.Fmt.{decimal_is_IsNumeral, decimal_injective}
 use Rattle.std.specs.Bool.{Decides}
 use Rattle.std.proofs.lemmas.Option.{none-some}
@@ -22,7 +23,7 @@ use Rattle.num_range.specs.Number.{PlainNumber}
 use Rattle.num_range.specs.Range.{PlainRange}
 use Rattle.num_range.specs.Block.{block_size, block_of}
 use Rattle.addr_text.specs.Address.{SpellsIpv4, SpellsIpv6, SpellsAddressOf, SpellsAddress}
-use Rattle.addr_text.specs.Number.{SpellsAsn, SpellsNumberOf, SpellsNumber}
+use Rattle.addr_text.specs.Number.{SpellsNumberOf, SpellsNumber}
 use Rattle.addr_text.specs.Block.{SpellsBlock}
 use Rattle.addr_text.specs.Range.{IsOneNumber, IsWholeBlock, IsFirstToLast, SpellsRange}
 use Rattle.addr_text.specs.Reading.{IsSpelled, parted_at, decimal_up_to, number_in, ipv4_of, ipv6_of, address_of, asn_of, number_of, block_of_text, range_of_one, range_between, whole_block_of, first_to_last_of, range_of}
@@ -75,12 +76,6 @@ module _ {A : Type 0} (Spells : List ℕ → A → Type 0) (text : List ℕ) (re
 
 -- ---- decimals
 
-decides_le : (a b : ℕ) → Decides (nat_le a b) (a ≤ b)
-decides_le a b = (
-  λ e. ⊎_elim (λ h. h.1) (λ h. absurd (true≢false (sym e ∙ h.0))) (leb_tells a b),
-  λ l. ⊎_elim (λ h. h.0) (λ h. absurd (omega (arith, l, h.1))) (leb_tells a b),
-)
-
 abbrev pub IsDecimalUpTo : ℕ → List ℕ → ℕ → Type 0
 IsDecimalUpTo most text n = (text ≡ decimal n) × (n ≤ most)
 
@@ -88,7 +83,7 @@ pub decimal_spelled : (most : ℕ) (text : List ℕ) → most < 2 ^ 64 → IsSpe
 decimal_spelled most text fits =
     let v = digits_value 10 text in
     spelled_if (IsDecimalUpTo most text) ((decimal v ≡ text) × (v ≤ most)) _ v
-    (Decides-and _ _ (bytes_eq-Decides (decimal v) text) (decides_le v most))
+    (Decides-and _ _ (bytes_eq-Decides (decimal v) text) (leb-true v most, le-leb v most))
     (λ p. (sym p.0, p.1))
     λ none n h.
     let same : v ≡ n = ap (digits_value 10) h.0 ∙ (decimal_is_IsNumeral n (omega (arith, h.1))).1 in
@@ -140,12 +135,6 @@ address_is_number text n h = in_space n.space n.value h
     in_space Asn value h = absurd h
     in_space Ipv4 value h = h
     in_space Ipv6 value h = h
-
-asn_spelled : (text : List ℕ) → IsSpelled (SpellsAsn text) (asn_of text)
-asn_spelled text =
-    spelled_map (IsDecimalUpTo (top_of Asn) text) (SpellsAsn text) (number_in Asn) _ (decimal_spelled (top_of Asn) text (omega arith))
-    (λ value h. (refl, h.0, h.1))
-    (λ none n h. none n.value (h.1, h.2))
 
 -- without `AS` at its front, which `asn` tells
 number_at : (text : List ℕ) (asn : Bool) → Decides asn (take 2 text ≡ codes "AS") → IsSpelled (SpellsNumber text) (if asn then asn_of (drop 2 text) else address_of text)
@@ -247,7 +236,7 @@ first_to_last_spelled text = at (parted_at 45 text) (parted_first 45 text)
         spelled_then (SpellsNumber parts.1) (IsFirstToLast text) _ _ (number_spelled parts.1)
         (λ n is_last.
         spelled_if (IsFirstToLast text) ((m.space ≡ n.space) × (m.value ≤ n.value)) _ (range_between m n)
-        (Decides-and _ _ (same_space_decides m.space n.space) (decides_le m.value n.value))
+        (Decides-and _ _ (same_space_decides m.space n.space) (leb-true m.value n.value, le-leb m.value n.value))
         (λ both. (parts.0, parts.1, h.0 ∙ sym (append_assoc parts.0 (45 ∷ []) parts.1), is_first, subst (λ s. SpellsNumber parts.1 (record { space = s; value = n.value })) (sym both.0) is_last, both.1))
         (λ other. no_pair_order text parts.0 parts.1 h.0 h.1 m n is_first is_last other))
         (no_pair_last text parts.0 parts.1 h.0 h.1))

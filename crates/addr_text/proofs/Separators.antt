@@ -1,5 +1,7 @@
 -- No number's text has a byte that parts a block or a range, so that such a text parts in one way.
-use Rattle.std.proofs.Common.{◌≡◌, ◌≢◌, ℕ, ◌<◌, ◌≤◌, ◌^◌, Bool, true, false, List, [], ◌∷◌, ◌++◌, All, decimal, refl, ap, ◌∙◌, subst, inl, inr, arith}
+use Rattle.std.proofs.Common.{◌≡◌, ◌≢◌, ℕ, ◌<◌, ◌≤◌, ◌^◌, Bool, true, false, ◌==◌, List, [], ◌∷◌, ◌++◌, All, Option, None, Some, decimal, refl, ap, ◌∙◌, subst, inl, inr, arith, ne_eqb, eq-eqb}
+use Rattle.std.proofs.lemmas.Bool.{cond-true, cond-false}
+use Rattle.std.specs.Option.{option_map}
 use Rattle.std.proofs.lemmas.List.Elements.{All-nil, All-cons, All-head, All-tail, All-append, All-weaker, All-same}
 use Rattle.std.proofs.lemmas.Fmt.{decimal_is_IsNumeral}
 use Rattle.std.specs.Char.{digit_value}
@@ -10,6 +12,7 @@ use Rattle.num_range.specs.declared.space.Space.TheVariants.{Asn, Ipv4, Ipv6}
 use Rattle.num_range.specs.Number.{PlainNumber}
 use Rattle.addr_text.specs.Address.{SpellsAddressOf}
 use Rattle.addr_text.specs.Number.{SpellsNumberOf, SpellsNumber}
+use Rattle.addr_text.specs.Reading.{parted_at}
 
 -- no `-`, no `/` and no `S`
 abbrev pub IsAddressByte : ℕ → Type 0
@@ -117,3 +120,24 @@ same_parts c (x ∷ f) b (y ∷ g) d h k e =
     let first : x ≡ y = cc in
     let later = same_parts c f b g d (All-tail P x f h) (All-tail P y g k) rest in
     (ap (λ t. x ∷ t) later.0 ∙ ap (λ z. z ∷ g) first, later.1)
+
+-- ---- a text parted at a byte
+
+-- the byte and a text behind it, parted at the first such byte
+abbrev with_byte : ℕ → Option (List ℕ × List ℕ) → Option (List ℕ × List ℕ)
+with_byte b parts = option_map (λ parts. (b ∷ parts.0, parts.1)) parts
+
+-- the byte stands here for the first time
+pub parted_here : (byte : ℕ) (front back : List ℕ) → All (λ b. b ≢ byte) front → parted_at byte (front ++ byte ∷ back) ≡ Some (front, back)
+parted_here byte [] back h = cond-true (byte == byte) (Some ([], back)) (with_byte byte (parted_at byte back)) (eq-eqb byte byte refl)
+parted_here byte (b ∷ front) back h =
+    let P : ℕ → Type 0 = λ b. b ≢ byte in
+    cond-false (b == byte) (Some ([], front ++ byte ∷ back)) (with_byte b (parted_at byte (front ++ byte ∷ back))) (ne_eqb b byte (All-head P b front h))
+    ∙ ap (with_byte b) (parted_here byte front back (All-tail P b front h))
+
+pub parted_nowhere : (byte : ℕ) (text : List ℕ) → All (λ b. b ≢ byte) text → parted_at byte text ≡ None
+parted_nowhere byte [] h = refl
+parted_nowhere byte (b ∷ text) h =
+    let P : ℕ → Type 0 = λ b. b ≢ byte in
+    cond-false (b == byte) (Some ([], text)) (with_byte b (parted_at byte text)) (ne_eqb b byte (All-head P b text h))
+    ∙ ap (with_byte b) (parted_nowhere byte text (All-tail P b text h))

@@ -42,8 +42,8 @@ pair_back a b rest h more =
     rw (high, low, more)
 
 -- each number of the list is below the bound, in a record so that antt reads the list off a goal
-record Each (bound : ℕ) (xs : List ℕ) : Type 0 where
-  at : (k : ℕ) → get_or xs k 0 < bound
+pub record Each (bound : ℕ) (xs : List ℕ) : Type 0 where
+  pub at : (k : ℕ) → get_or xs k 0 < bound
 
 cons : {bound x : ℕ} {xs : List ℕ} → x < bound → Each bound xs → Each bound (x ∷ xs)
 cons {bound} {x} {xs} h more =
@@ -52,10 +52,10 @@ cons {bound} {x} {xs} h more =
 nil : (bound : ℕ) → 0 < bound → Each bound []
 nil bound h = record { at = λ _. h }
 
-four_bytes : (value : ℕ) → Each (2 ^ 8) (to_be_bytes w32 value)
+pub four_bytes : (value : ℕ) → Each (2 ^ 8) (to_be_bytes w32 value)
 four_bytes value = cons (omega arith) (cons (omega arith) (cons (omega arith) (cons (omega arith) (nil _ (omega arith)))))
 
-eight_groups : (value : ℕ) → Each (2 ^ 16) (groups_of value)
+pub eight_groups : (value : ℕ) → Each (2 ^ 16) (groups_of value)
 eight_groups value =
     cons (omega arith) (cons (omega arith) (cons (omega arith) (cons (omega arith) (cons (omega arith) (cons (omega arith) (cons (omega arith) (cons (omega arith) (nil _ (omega arith)))))))))
 

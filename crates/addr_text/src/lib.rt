@@ -9,14 +9,15 @@ mod decimal;
 mod ipv6;
 mod laws;
 mod number;
+mod parted;
 mod range;
-mod separator;
 
 pub use address::read_addr;
 pub use block::read_block;
 pub use decimal::read_decimal;
 pub use laws::{computes_spelled, reads_written, shortens_longest, spells_one, spells_valid};
 pub use number::{read_asn, read_number, write_number};
+pub use parted::parted_at;
 pub use range::{read_range, write_range};
 
 #[cfg(test)]

@@ -7,7 +7,7 @@ ghost use Rattle.arrayvec.specs.ArrayVec.{array_vec_len};
 use crate::append::append;
 use crate::block::read_block;
 use crate::number::{read_number, write_number};
-use crate::separator::split_once;
+use crate::parted::parted_at;
 use arrayvec::ArrayVec;
 use num_range::{Number, Range, block};
 
@@ -42,7 +42,7 @@ fn read_first_to_last(text: &[u8]) -> Option<Range>
     ensures some { IfSome result (IsFirstToLast text.now) }
     ensures none { IfNone result ((r : PlainRange) → ¬ (IsFirstToLast text.now r)) }
 {
-    let (first, last) = split_once(text, b'-')?;
+    let (first, last) = parted_at(b'-', text)?;
     let first = read_number(first)?;
     let last = read_number(last)?;
     if !in_order(&first, &last) {

@@ -1,9 +1,13 @@
-pub mod Fronts
 pub mod Hosts
 pub mod ValidLines
-mod WrittenRows
 pub mod ReadWords
 pub mod WordForms
 pub mod ReadValues
 pub mod ReadLines
 pub mod ReadEntries
+pub mod FrontWords
+pub mod WrongPlaces
+pub mod WrongLines
+pub mod NeededRoom
+pub mod NextEntries
+mod PlaceRows

@@ -21,11 +21,11 @@ use Rattle.reg_entry.specs.Days.{last_date, two_digits, date_text, date_of_day, 
 use Rattle.reg_entry.specs.Entry.{PlainEntry}
 use Rattle.reg_entry.specs.Name.{is_name_byte, is_name}
 use Rattle.reg_entry.proofs.DayTexts.{day_value}
-use Rattle.desk_lang.specs.EntryText.{cover_word, holder_word, day_word, card_text, entry_text}
+use Rattle.desk_text.specs.EntryText.{cover_word, holder_word, day_word, card_text, entry_text}
 use Rattle.desk_lang.specs.EntryReading.{IsWritableCover, IsHolderNumber, IsWritableCard, IsWritableEntry, SpellsEntry, optional, card_day_of, seq_of, status_of_word, card_of_words, request_of_line, entry_line}
-use Rattle.desk_lang.specs.RequestText.{range_word, request_text}
+use Rattle.desk_text.specs.RequestText.{range_word, request_text}
 use Rattle.desk_lang.specs.Values.{label_of, decimal_of}
-use Rattle.desk_lang.specs.Vocabulary.{status_word}
+use Rattle.desk_text.specs.Vocabulary.{status_word}
 use Rattle.desk_lang.specs.Words.{rest_at, ◌>>=◌}
 use Rattle.desk_lang.proofs.ReadWords.{IsWordByte, IsWord, first_read, plain_read}
 use Rattle.desk_lang.proofs.WordForms.{decimal_bytes, range_is_word, length_range, all_from_test}
@@ -49,7 +49,7 @@ seq_back n fits =
     sym (same_value (IsDecimalUpTo (2 ^ 64 - 1) (decimal n)) (λ x y h k. decimal_injective x y (omega (arith, h.1)) (omega (arith, k.1)) (sym h.0 ∙ k.0))
     (Some n) (seq_of (decimal n)) (refl, omega arith) tt (decimal_spelled (2 ^ 64 - 1) (decimal n) (omega arith)))
 
-day_back : (day : ℕ) → 1 ≤ day → day ≤ last_date → day_of_text (day_text day) ≡ Some day
+pub day_back : (day : ℕ) → 1 ≤ day → day ≤ last_date → day_of_text (day_text day) ≡ Some day
 day_back day some date =
     sym (day_value (day_text day) (Some day) ((λ _. (day, (some, date, refl))), (λ _. refl)) (some, date, refl))
 
@@ -110,7 +110,7 @@ date_is_word year month day = record {
       (All-append IsWordByte (two_digits (year / 100)) (two_digits (year % 100)) (pair_bytes (year / 100)) (pair_bytes (year % 100))) (pair_bytes month)) (pair_bytes day);
 }
 
-day_is_word : (day : ℕ) → IsWord (day_text day)
+pub day_is_word : (day : ℕ) → IsWord (day_text day)
 day_is_word day = date_is_word (date_of_day day).0 (date_of_day day).1 (date_of_day day).2
 
 card_day_back : (day : ℕ) → day ≤ last_date → card_day_of (day_word day) ≡ Some day

@@ -29,9 +29,9 @@ use Rattle.reg_entry.specs.Text.{is_text}
 use Rattle.desk_lang.specs.declared.line.Line.TheVariants.{Request}
 use Rattle.desk_lang.specs.declared.rest.Form.TheVariants.{Plain, Quoted}
 use Rattle.desk_lang.specs.declared.rest.Malformed.{Malformed}
-use Rattle.desk_lang.specs.RequestText.{range_word, holder_text, hosts_text, request_text}
+use Rattle.desk_text.specs.RequestText.{range_word, holder_text, hosts_text, request_text}
 use Rattle.desk_lang.specs.Values.{label_of, kind_of, space_of, delegation_of, amount_of}
-use Rattle.desk_lang.specs.Vocabulary.{space_word, kind_word, status_word, amount_text, quoted}
+use Rattle.desk_text.specs.Vocabulary.{space_word, kind_word, status_word, amount_text, quoted}
 use Rattle.desk_lang.specs.Words.{PlainRest, PlainWord, rest_at, ends_word, first_word, next_value, at_end, ◌>>=◌}
 use Rattle.desk_lang.specs.Grammar.{range_line, number_line, range_and_handle, holder_line, delegate_line, transfer_line, more_hosts, reverse_line, requested, line_of_word, line_of}
 use Rattle.desk_lang.specs.Writable.{IsWritableHolder, IsWritable}

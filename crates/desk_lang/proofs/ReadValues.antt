@@ -18,9 +18,9 @@ use Rattle.reg_entry.specs.declared.kind.Kind.TheVariants.{Lir, EndUser}
 use Rattle.reg_entry.specs.declared.request.Delegation.{Delegation}
 use Rattle.reg_entry.specs.declared.request.Delegation.TheVariants.{Allocate, Assign}
 use Rattle.reg_entry.specs.Request.{status_of, has_size}
-use Rattle.desk_lang.specs.RequestText.{range_word}
+use Rattle.desk_text.specs.RequestText.{range_word}
 use Rattle.desk_lang.specs.Values.{label_of, kind_of, space_of, delegation_of, decimal_of, spelled_amount, amount_of}
-use Rattle.desk_lang.specs.Vocabulary.{space_word, kind_word, status_word, amount_text}
+use Rattle.desk_text.specs.Vocabulary.{space_word, kind_word, status_word, amount_text}
 
 pub number_back : (n : PlainNumber) → IsNumber n → number_of (number_text n) ≡ Some n
 number_back n h =

@@ -1,13 +1,13 @@
 -- A word that was written is the first that is read, and what stands behind it is left.
 use Rattle.std.proofs.Common.{◌≡◌, ◌≢◌, ℕ, suc, ◌+◌, ◌<◌, true, false, ◌==◌, List, [], ◌∷◌, ◌++◌, length, All, Option, Some, Result, Ok, refl, ap, ◌∙◌, subst, arith, append_assoc, append-nil, ne_eqb}
 use Rattle.std.proofs.lemmas.Bool.{cond-true, cond-false}
-use Rattle.std.proofs.lemmas.List.Elements.{All-head, All-tail}
+use Rattle.std.proofs.lemmas.List.Elements.{All-head, All-tail, All-weaker}
 use Rattle.std.proofs.Math.Seq.{take-append_seam, drop-append_seam}
-use Rattle.std.specs.Option.{option_map}
 use Rattle.addr_text.specs.Reading.{parted_at}
+use Rattle.addr_text.proofs.Separators.{parted_here}
 use Rattle.desk_lang.specs.declared.rest.Form.TheVariants.{Plain, Quoted}
 use Rattle.desk_lang.specs.declared.rest.Malformed.{Malformed}
-use Rattle.desk_lang.specs.Vocabulary.{quoted}
+use Rattle.desk_text.specs.Vocabulary.{quoted}
 use Rattle.desk_lang.specs.Words.{PlainRest, PlainWord, is_blank, rest_at, without_blanks, word_length, plain_word, ends_word, quoted_word, word_of, first_word, word_in, end_place, value_of_word, next_value, ◌>>=◌}
 
 -- no blank, no tab and no quote
@@ -18,20 +18,24 @@ pub record IsWord (word : List ℕ) : Type 0 where
   pub some : 0 < length word
   pub bytes : All IsWordByte word
 
-no_blank : (b : ℕ) → IsWordByte b → is_blank b ≡ false
+pub no_blank : (b : ℕ) → IsWordByte b → is_blank b ≡ false
 no_blank b h = rw (ne_eqb b 32 h.0, ne_eqb b 9 h.1) refl
 
-word_length_of : (word more : List ℕ) → All IsWordByte word → ends_word more ≡ true → word_length (word ++ more) ≡ length word
+-- no blank and no tab
+abbrev pub IsUnbroken : ℕ → Type 0
+IsUnbroken b = is_blank b ≡ false
+
+word_length_of : (word more : List ℕ) → All IsUnbroken word → ends_word more ≡ true → word_length (word ++ more) ≡ length word
 word_length_of [] [] h e = refl
 word_length_of [] (b ∷ more) h e = cond-true (is_blank b) 0 (suc (word_length more)) e
 word_length_of (b ∷ word) more h e =
-    cond-false (is_blank b) 0 (suc (word_length (word ++ more))) (no_blank b (All-head IsWordByte b word h))
-    ∙ ap suc (word_length_of word more (All-tail IsWordByte b word h) e)
+    cond-false (is_blank b) 0 (suc (word_length (word ++ more))) (All-head IsUnbroken b word h)
+    ∙ ap suc (word_length_of word more (All-tail IsUnbroken b word h) e)
 
 abbrev pub plain_at : ℕ → List ℕ → List ℕ → PlainWord
 plain_at place word more = record { place = place; form = Plain; bytes = word; behind = rest_at (place + length word) more }
 
-plain_taken : (place : ℕ) (word more : List ℕ) → All IsWordByte word → ends_word more ≡ true → plain_word place (word ++ more) ≡ plain_at place word more
+pub plain_taken : (place : ℕ) (word more : List ℕ) → All IsUnbroken word → ends_word more ≡ true → plain_word place (word ++ more) ≡ plain_at place word more
 plain_taken place word more h e =
     rw (word_length_of word more h e, take-append_seam word more, drop-append_seam word more) refl
 
@@ -42,13 +46,7 @@ plain_first place (b ∷ word) more h e =
     let byte = All-head IsWordByte b word h.bytes in
     ap word_of (cond-false (is_blank b) (without_blanks (place + 1) (word ++ more)) (rest_at place (b ∷ word ++ more)) (no_blank b byte))
     ∙ ap Some (cond-false (b == 34) (quoted_word place (parted_at 34 (word ++ more))) (plain_word place (b ∷ word ++ more)) (ne_eqb b 34 byte.2)
-    ∙ plain_taken place (b ∷ word) more h.bytes e)
-
-parted_quote : (content more : List ℕ) → All (λ b. b ≢ 34) content → parted_at 34 (content ++ 34 ∷ more) ≡ Some (content, more)
-parted_quote [] more h = refl
-parted_quote (b ∷ content) more h =
-    cond-false (b == 34) (Some ([], content ++ 34 ∷ more)) (option_map (λ parts. (b ∷ parts.0, parts.1)) (parted_at 34 (content ++ 34 ∷ more))) (ne_eqb b 34 (All-head (λ b. b ≢ 34) b content h))
-    ∙ ap (option_map (λ parts. (b ∷ parts.0, parts.1))) (parted_quote content more (All-tail (λ b. b ≢ 34) b content h))
+    ∙ plain_taken place (b ∷ word) more (All-weaker IsWordByte IsUnbroken no_blank (b ∷ word) h.bytes) e)
 
 abbrev pub quoted_at : ℕ → List ℕ → List ℕ → PlainWord
 quoted_at place content more = record { place = place; form = Quoted; bytes = content; behind = rest_at (place + length content + 2) more }
@@ -56,7 +54,7 @@ quoted_at place content more = record { place = place; form = Quoted; bytes = co
 -- a quoted text that ends here is the first word
 pub quoted_first : (place : ℕ) (content more : List ℕ) → All (λ b. b ≢ 34) content → ends_word more ≡ true → first_word (rest_at place (34 ∷ content ++ 34 ∷ more)) ≡ Some (quoted_at place content more)
 quoted_first place content more h e =
-    ap (λ parts. Some (quoted_word place parts)) (parted_quote content more h)
+    ap (λ parts. Some (quoted_word place parts)) (parted_here 34 content more h)
     ∙ ap Some (cond-true (ends_word more) (quoted_at place content more) _ e)
 
 -- ---- a value behind a blank, with what is read behind it

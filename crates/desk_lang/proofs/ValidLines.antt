@@ -15,7 +15,7 @@ use Rattle.addr_text.proofs.Valid.{number_valid, range_valid}
 use Rattle.reg_entry.specs.declared.request.Request.{Request as ARequest}
 use Rattle.reg_entry.specs.declared.request.Request.TheVariants.{SetReverse}
 use Rattle.reg_entry.specs.Host.{is_host}
-use Rattle.reg_entry.specs.Request.{has_size, is_range, is_number, are_servers, is_request, IsSizedRequest}
+use Rattle.reg_entry.specs.Request.{has_size, is_range, is_number, is_server_count, is_request, IsSizedRequest}
 use Rattle.desk_lang.specs.declared.line.Line.{Line}
 use Rattle.desk_lang.specs.declared.line.Line.TheVariants.{Due, Nothing}
 use Rattle.desk_lang.specs.declared.verb.Verb.{Verb}
@@ -156,8 +156,8 @@ reverse_line_valid rest =
     hosts_valid : (range : PlainRange) → is_range range ≡ true → (hosts : Result (List (List ℕ)) Malformed) → IfOk hosts HaveRoom
         → IfOk (hosts >>= λ hosts. Ok (SetReverse range hosts)) IsValidRequest
     hosts_valid range h (Ok hosts) few =
-        let counted : are_servers hosts ≡ true = and_from (nat_le 1 (length hosts)) (nat_le (length hosts) 4) (le-leb 1 (length hosts) few.0) (le-leb (length hosts) 4 few.1) in
-        (and_from (is_range range) (are_servers hosts) h counted, tt)
+        let counted : is_server_count hosts ≡ true = and_from (nat_le 1 (length hosts)) (nat_le (length hosts) 4) (le-leb 1 (length hosts) few.0) (le-leb (length hosts) 4 few.1) in
+        (and_from (is_range range) (is_server_count hosts) h counted, tt)
     hosts_valid range h (Err fault) few = tt
 
 unasked : {T : Type 0} (r : Result T Malformed) → IfOk r (λ x. Unit {0})

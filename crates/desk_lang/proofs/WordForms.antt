@@ -1,5 +1,5 @@
 -- What is written as one word is one: it has a byte, and neither a blank nor a quote.
-use Rattle.std.proofs.Common.{◌≡◌, ◌≢◌, ℕ, zero, suc, ◌+◌, ◌*◌, ◌^◌, ◌<◌, ◌≤◌, Bool, true, ◌==◌, ◌&&◌, nat_le, List, [], ◌∷◌, ◌++◌, length, get_or, take, drop, flat_map, All, decimal, codes, refl, sym, ap, ◌∙◌, inl, inr, arith, length-append, length-drop, length-take, ltb, true≢false}
+use Rattle.std.proofs.Common.{◌≡◌, ◌≢◌, ℕ, ◌+◌, ◌*◌, ◌^◌, ◌<◌, ◌≤◌, Bool, true, ◌==◌, ◌&&◌, nat_le, List, [], ◌∷◌, ◌++◌, length, take, drop, flat_map, All, decimal, codes, refl, sym, ap, ◌∙◌, inl, inr, arith, length-append, length-drop, length-take, ltb, true≢false}
 use Rattle.std.proofs.lemmas.Bool.{and_parts, and_from, eqb-true, leb-true, cases_Bool, cond_both, cond-true, cond-false}
 use Rattle.std.proofs.lemmas.Bool.Decides.{nat_tests}
 use Rattle.std.proofs.lemmas.Fmt.{decimal_is_IsNumeral, length-decimal-le}
@@ -15,11 +15,12 @@ use Rattle.num_range.specs.Space.{top_of}
 use Rattle.num_range.specs.Range.{PlainRange, IsRange}
 use Rattle.addr_text.specs.Address.{groups_of}
 use Rattle.addr_text.specs.Number.{text_of}
+use Rattle.addr_text.proofs.Written.{four_bytes, eight_groups}
 use Rattle.reg_entry.specs.Cc.{is_cc}
 use Rattle.reg_entry.specs.Handle.{is_capital, is_handle_byte, is_handle}
 use Rattle.reg_entry.specs.Host.{is_host_byte, is_host_label, host_labels, is_host}
 use Rattle.reg_entry.specs.Text.{is_text_byte, is_bare_of, is_text}
-use Rattle.desk_lang.specs.RequestText.{range_word}
+use Rattle.desk_text.specs.RequestText.{range_word}
 use Rattle.desk_lang.proofs.ReadWords.{IsWordByte, IsWord}
 
 -- ---- decimals and addresses
@@ -37,24 +38,6 @@ digit_or_dot b (inr h) = (omega arith, omega arith, omega arith)
 hex_or_colon : (b : ℕ) → IsHexOrColon b → IsWordByte b
 hex_or_colon b (inl h) = (omega arith, omega arith, omega arith)
 hex_or_colon b (inr h) = (omega arith, omega arith, omega arith)
-
--- each number of the list is below the bound, in a record so that antt reads the list off a goal
-record Each (bound : ℕ) (xs : List ℕ) : Type 0 where
-  at : (k : ℕ) → get_or xs k 0 < bound
-
-cons : {bound x : ℕ} {xs : List ℕ} → x < bound → Each bound xs → Each bound (x ∷ xs)
-cons {bound} {x} {xs} h more =
-    record { at = λ k. elim k as (λ j. get_or (x ∷ xs) j 0 < bound) [ zero ↦ h | suc j ↦ more.at j ] }
-
-nil : (bound : ℕ) → 0 < bound → Each bound []
-nil bound h = record { at = λ _. h }
-
-four_bytes : (value : ℕ) → Each (2 ^ 8) (to_be_bytes w32 value)
-four_bytes value = cons (omega arith) (cons (omega arith) (cons (omega arith) (cons (omega arith) (nil _ (omega arith)))))
-
-eight_groups : (value : ℕ) → Each (2 ^ 16) (groups_of value)
-eight_groups value =
-    cons (omega arith) (cons (omega arith) (cons (omega arith) (cons (omega arith) (cons (omega arith) (cons (omega arith) (cons (omega arith) (cons (omega arith) (nil _ (omega arith)))))))))
 
 pub number_bytes : (space : Space) (value : ℕ) → value ≤ top_of space → All IsWordByte (text_of space value)
 number_bytes Asn value fits =

@@ -15,8 +15,8 @@ use Rattle.desk_lang.specs.declared.line.Line.{Line}
 use Rattle.desk_lang.specs.declared.line.Line.TheVariants.{Request}
 use Rattle.desk_lang.specs.declared.rest.Form.TheVariants.{Plain}
 use Rattle.desk_lang.specs.declared.rest.Malformed.{Malformed}
-use Rattle.desk_lang.specs.EntryText.{entry_text}
-use Rattle.desk_lang.specs.Vocabulary.{status_word}
+use Rattle.desk_text.specs.EntryText.{entry_text}
+use Rattle.desk_text.specs.Vocabulary.{status_word}
 use Rattle.desk_lang.specs.Words.{PlainRest, next_value, malformed_at, ◌>>=◌}
 use Rattle.desk_lang.specs.Values.{label_of, decimal_of}
 use Rattle.desk_lang.specs.Grammar.{line_of}

@@ -1,10 +1,6 @@
-pub mod Vocabulary
-pub mod RequestText
-pub mod EntryText
-pub mod ReplyText
-pub mod ShownText
 pub mod Words
 pub mod Values
 pub mod Grammar
 pub mod Writable
 pub mod EntryReading
+pub mod Places

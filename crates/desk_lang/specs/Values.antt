@@ -11,7 +11,7 @@ use Rattle.reg_entry.specs.declared.kind.Kind.TheVariants.{Lir, EndUser}
 use Rattle.reg_entry.specs.declared.request.Delegation.{Delegation}
 use Rattle.reg_entry.specs.declared.request.Delegation.TheVariants.{Allocate, Assign}
 use Rattle.reg_entry.specs.Request.{has_size}
-use Rattle.desk_lang.specs.Vocabulary.{space_word, kind_word, status_word}
+use Rattle.desk_text.specs.Vocabulary.{space_word, kind_word, status_word}
 
 -- the bytes themselves, where they are of a form
 abbrev pub label_of : (List ℕ → Bool) → List ℕ → Option (List ℕ)

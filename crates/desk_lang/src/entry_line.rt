@@ -5,17 +5,19 @@ ghost use Rattle.reg_entry.specs.Entry.{PlainEntry};
 ghost use Rattle.desk_lang.specs.declared.rest.Form.TheVariants.{Plain};
 ghost use Rattle.desk_lang.specs.EntryReading.{IsHolderNumber, IsWritableCover, IsWritableCard, IsWritableEntry, SpellsEntry, optional, card_day_of, seq_of, status_of_word, card_of_words, request_of_rest, entry_line};
 ghost use Rattle.reg_entry.specs.Days.{last_date};
-ghost use Rattle.desk_lang.specs.EntryText.{CardHasDates, entry_text};
+ghost use Rattle.desk_text.specs.EntryText.{CardHasDates, entry_text};
+ghost use Rattle.reg_entry.specs.Next.{IsNextEntry};
+ghost use Rattle.reg_entry.specs.Register.{Register};
 ghost use Rattle.reg_entry.specs.Request.{IsSizedRequest};
 ghost use Rattle.desk_lang.specs.Values.{decimal_of};
 ghost use Rattle.desk_lang.specs.Words.{next_value};
 
-use crate::entry_text::write_entry;
 use crate::line::{LINE_ROOM, Line, read_line};
 use crate::rest::{Form, Malformed, Rest};
 use crate::writable::is_writable;
 use addr_text::{read_decimal, read_range};
 use arrayvec::ArrayVec;
+use desk_text::write_entry;
 use itoa::Buffer;
 use num_range::Range;
 use reg_entry::{Card, Entry, LAST_DATE, Request, Status, read_day};
@@ -96,50 +98,40 @@ impl<'a> Rest<'a> {
         ensures { result ≡ next_value Plain seq_of self.now }
     {
         let word = self.next_word(Form::Plain)?;
-        match read_seq(word.bytes()) {
-            Some(seq) => Ok((seq, word.behind())),
-            None => Err(word.malformed()),
-        }
+        let seq = read_seq(word.bytes());
+        word.value(seq)
     }
 
     fn cover(&self) -> Result<(Option<Range>, Rest<'a>), Malformed>
         ensures { result ≡ next_value Plain (optional range_of) self.now }
     {
         let word = self.next_word(Form::Plain)?;
-        match read_cover(word.bytes()) {
-            Some(cover) => Ok((cover, word.behind())),
-            None => Err(word.malformed()),
-        }
+        let cover = read_cover(word.bytes());
+        word.value(cover)
     }
 
     fn status(&self) -> Result<(Option<Status>, Rest<'a>), Malformed>
         ensures { result ≡ next_value Plain (optional status_of_word) self.now }
     {
         let word = self.next_word(Form::Plain)?;
-        match read_status(word.bytes()) {
-            Some(status) => Ok((status, word.behind())),
-            None => Err(word.malformed()),
-        }
+        let status = read_status(word.bytes());
+        word.value(status)
     }
 
     fn holder_number(&self) -> Result<(Option<u32>, Rest<'a>), Malformed>
         ensures { result ≡ next_value Plain (optional decimal_of) self.now }
     {
         let word = self.next_word(Form::Plain)?;
-        match read_holder_number(word.bytes()) {
-            Some(holder) => Ok((holder, word.behind())),
-            None => Err(word.malformed()),
-        }
+        let holder = read_holder_number(word.bytes());
+        word.value(holder)
     }
 
     fn card_day(&self) -> Result<(u32, Rest<'a>), Malformed>
         ensures { result ≡ next_value Plain card_day_of self.now }
     {
         let word = self.next_word(Form::Plain)?;
-        match read_card_day(word.bytes()) {
-            Some(day) => Ok((day, word.behind())),
-            None => Err(word.malformed()),
-        }
+        let day = read_card_day(word.bytes());
+        word.value(day)
     }
 
     /// The request, which is all that is left of the line.
@@ -253,6 +245,28 @@ pub fn is_writable_entry(e: &Entry) -> bool
     is_writable_card(&e.cover, &e.card)
 }
 
+fn has_holder_number(card: &Option<Card>)
+    ensures { IfSome card.now (λ c. IsHolderNumber c.holder) }
+{
+    if let Some(card) = card {
+        has_word(card.holder);
+    }
+}
+
+/// Tells callers that an entry that may come next has a written text, and that it is read from it again.
+pub fn next_is_writable(e: &Entry)
+    ensures writable { (r : Register) → IsNextEntry r e.now → IsWritableEntry e.now }
+    ensures spelled { (r : Register) → IsNextEntry r e.now → SpellsEntry (entry_text e.now) e.now }
+    ensures dates { (r : Register) → IsNextEntry r e.now
+        → (e.now.day ≤ last_date) × CardHasDates e.now.card }
+{
+    has_decimal(e.seq);
+    let _ = e.who.bytes();
+    has_range(&e.cover);
+    has_holder_number(&e.card);
+    is_writable(&e.request);
+}
+
 /// Whether the text is the one that is written of the entry.
 fn is_text_of(text: &[u8], e: &Entry) -> bool
     requires date { e.now.day ≤ last_date }
@@ -268,6 +282,7 @@ fn is_text_of(text: &[u8], e: &Entry) -> bool
 pub fn read_entry(text: &[u8]) -> Option<Entry>
     ensures some { IfSome result (SpellsEntry text.now) }
     ensures none { IfNone result ((e : PlainEntry) → ¬ (SpellsEntry text.now e)) }
+    ensures found { (e : PlainEntry) → SpellsEntry text.now e → result ≡ Some e }
 {
     if text.len() > LINE_ROOM {
         return None;

@@ -1,32 +1,23 @@
-//! The desk language: the lines in which hostmasters ask, and the texts in which requests, entries and replies are
-//! written.
+//! The desk language: the lines in which hostmasters ask, read as what they mean or as the place where they go wrong,
+//! and the entries of the journal. The texts that the desk writes are those of desk_text.
 #![tactic(auto)]
 
-mod append;
 mod entry_line;
-mod entry_text;
 pub mod laws;
 mod line;
-mod parted;
 #[cfg(test)]
 mod read_tests;
-mod reply_text;
-mod request_text;
 mod rest;
-mod shown_text;
 mod values;
 mod verb;
-mod vocabulary;
 mod writable;
-#[cfg(test)]
-mod write_tests;
 
+pub use addr_text::parted_at;
+pub use desk_text::{
+    write_due_count, write_due_piece, write_entry, write_none, write_piece, write_reply,
+    write_request,
+};
 pub use entry_line::{is_writable_entry, read_entry};
-pub use entry_text::write_entry;
 pub use line::{LINE_ROOM, Line, read_line};
-pub use parted::parted_at;
-pub use reply_text::write_reply;
-pub use request_text::write_request;
 pub use rest::Malformed;
-pub use shown_text::write_piece;
 pub use writable::is_writable;

@@ -2,9 +2,9 @@
 ghost use Rattle.std.specs.Prelude.{◌≡◌, ◌≤◌, ◌∷◌, length};
 ghost use Rattle.addr_text.specs.Reading.{parted_at};
 ghost use Rattle.desk_lang.specs.declared.rest.Form.TheVariants.{Plain};
-ghost use Rattle.desk_lang.specs.Words.{is_blank, rest_at, without_blanks, word_length, plain_word, broken_word, ends_word, quoted_word, word_at, first_word, next_word, at_end, malformed_at, same_form};
+ghost use Rattle.desk_lang.specs.Words.{is_blank, rest_at, without_blanks, word_length, plain_word, broken_word, ends_word, quoted_word, word_at, first_word, next_word, at_end, malformed_at, same_form, value_of_word};
 
-use crate::parted::parted_at;
+use addr_text::parted_at;
 use std::marker::Model;
 
 /// The line isn't in the desk language. The place counts its bytes from 1: it is that of the first word that no line has
@@ -260,6 +260,16 @@ impl<'a> Word<'a> {
         ensures { result ≡ self.entry.behind }
     {
         self.behind
+    }
+
+    /// The value that the word was read as, and what is left behind the word.
+    pub fn value<T>(self, value: Option<T>) -> Result<(T, Rest<'a>), Malformed>
+        ensures { result ≡ value_of_word self.entry value }
+    {
+        match value {
+            Some(value) => Ok((value, self.behind)),
+            None => Err(Malformed { place: self.place }),
+        }
     }
 
     /// The fault of a line that goes wrong with this word.

@@ -67,16 +67,6 @@ fn read_length(word: &[u8]) -> Option<u32>
     }
 }
 
-fn has_size(space: Space, amount: u32) -> bool
-    ensures { result ≡ has_size space amount }
-{
-    match space {
-        Space::Asn => (1..=1024).contains(&amount),
-        Space::Ipv4 => amount <= 32,
-        Space::Ipv6 => (3..=128).contains(&amount),
-    }
-}
-
 /// A count of AS numbers, or the prefix length of a block.
 fn read_amount(space: Space, word: &[u8]) -> Option<u32>
     ensures value { result ≡ amount_of space word.now }
@@ -86,7 +76,7 @@ fn read_amount(space: Space, word: &[u8]) -> Option<u32>
         Space::Asn => read_decimal(word)?,
         Space::Ipv4 | Space::Ipv6 => read_length(word)?,
     };
-    if !has_size(space, amount) {
+    if !space.has_size(amount) {
         return None;
     }
     Some(amount)
@@ -97,60 +87,48 @@ impl<'a> Rest<'a> {
         ensures { result ≡ next_value Plain range_of self.now }
     {
         let word = self.next_word(Form::Plain)?;
-        match read_range(word.bytes()) {
-            Some(range) => Ok((range, word.behind())),
-            None => Err(word.malformed()),
-        }
+        let range = read_range(word.bytes());
+        word.value(range)
     }
 
     pub fn number(&self) -> Result<(Number, Rest<'a>), Malformed>
         ensures { result ≡ next_value Plain number_of self.now }
     {
         let word = self.next_word(Form::Plain)?;
-        match read_number(word.bytes()) {
-            Some(number) => Ok((number, word.behind())),
-            None => Err(word.malformed()),
-        }
+        let number = read_number(word.bytes());
+        word.value(number)
     }
 
     pub fn handle(&self) -> Result<(Handle, Rest<'a>), Malformed>
         ensures { result ≡ next_value Plain (label_of is_handle) self.now }
     {
         let word = self.next_word(Form::Plain)?;
-        match Handle::read(word.bytes()) {
-            Some(handle) => Ok((handle, word.behind())),
-            None => Err(word.malformed()),
-        }
+        let handle = Handle::read(word.bytes());
+        word.value(handle)
     }
 
     pub fn cc(&self) -> Result<(Cc, Rest<'a>), Malformed>
         ensures { result ≡ next_value Plain (label_of is_cc) self.now }
     {
         let word = self.next_word(Form::Plain)?;
-        match Cc::read(word.bytes()) {
-            Some(cc) => Ok((cc, word.behind())),
-            None => Err(word.malformed()),
-        }
+        let cc = Cc::read(word.bytes());
+        word.value(cc)
     }
 
     pub fn host(&self) -> Result<(Host, Rest<'a>), Malformed>
         ensures { result ≡ next_value Plain (label_of is_host) self.now }
     {
         let word = self.next_word(Form::Plain)?;
-        match Host::read(word.bytes()) {
-            Some(host) => Ok((host, word.behind())),
-            None => Err(word.malformed()),
-        }
+        let host = Host::read(word.bytes());
+        word.value(host)
     }
 
     pub fn name(&self) -> Result<(Name, Rest<'a>), Malformed>
         ensures { result ≡ next_value Plain (label_of is_name) self.now }
     {
         let word = self.next_word(Form::Plain)?;
-        match Name::read(word.bytes()) {
-            Some(name) => Ok((name, word.behind())),
-            None => Err(word.malformed()),
-        }
+        let name = Name::read(word.bytes());
+        word.value(name)
     }
 
     /// A text between quotes.
@@ -158,10 +136,8 @@ impl<'a> Rest<'a> {
         ensures { result ≡ next_value Quoted (label_of is_text) self.now }
     {
         let word = self.next_word(Form::Quoted)?;
-        match Text::read(word.bytes()) {
-            Some(text) => Ok((text, word.behind())),
-            None => Err(word.malformed()),
-        }
+        let text = Text::read(word.bytes());
+        word.value(text)
     }
 
     pub fn day(&self) -> Result<(u32, Rest<'a>), Malformed>
@@ -169,30 +145,24 @@ impl<'a> Rest<'a> {
         ensures dated { IfOk result (λ day. (1 ≤ day.0) × (day.0 ≤ last_date)) }
     {
         let word = self.next_word(Form::Plain)?;
-        match read_day(word.bytes()) {
-            Some(day) => Ok((day, word.behind())),
-            None => Err(word.malformed()),
-        }
+        let day = read_day(word.bytes());
+        word.value(day)
     }
 
     pub fn kind(&self) -> Result<(Kind, Rest<'a>), Malformed>
         ensures { result ≡ next_value Plain kind_of self.now }
     {
         let word = self.next_word(Form::Plain)?;
-        match read_kind(word.bytes()) {
-            Some(kind) => Ok((kind, word.behind())),
-            None => Err(word.malformed()),
-        }
+        let kind = read_kind(word.bytes());
+        word.value(kind)
     }
 
     pub fn space(&self) -> Result<(Space, Rest<'a>), Malformed>
         ensures { result ≡ next_value Plain space_of self.now }
     {
         let word = self.next_word(Form::Plain)?;
-        match read_space(word.bytes()) {
-            Some(space) => Ok((space, word.behind())),
-            None => Err(word.malformed()),
-        }
+        let space = read_space(word.bytes());
+        word.value(space)
     }
 
     pub fn amount(&self, space: Space) -> Result<(u32, Rest<'a>), Malformed>
@@ -200,19 +170,15 @@ impl<'a> Rest<'a> {
         ensures sized { IfOk result (λ amount. has_size space amount.0 ≡ true) }
     {
         let word = self.next_word(Form::Plain)?;
-        match read_amount(space, word.bytes()) {
-            Some(amount) => Ok((amount, word.behind())),
-            None => Err(word.malformed()),
-        }
+        let amount = read_amount(space, word.bytes());
+        word.value(amount)
     }
 
     pub fn delegation(&self) -> Result<(Delegation, Rest<'a>), Malformed>
         ensures { result ≡ next_value Plain delegation_of self.now }
     {
         let word = self.next_word(Form::Plain)?;
-        match read_delegation(word.bytes()) {
-            Some(delegation) => Ok((delegation, word.behind())),
-            None => Err(word.malformed()),
-        }
+        let delegation = read_delegation(word.bytes());
+        word.value(delegation)
     }
 }

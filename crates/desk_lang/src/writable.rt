@@ -22,10 +22,9 @@ fn have_forms(hosts: &[Host])
 }
 
 /// Tells callers that the request's parts are of their forms, as their types keep them, so that its text is read again
-/// as the request.
+/// as the request where its amount can be asked for.
 pub fn is_writable(r: &Request)
-    requires { IsSizedRequest r.now }
-    ensures { IsWritable r.now }
+    ensures { IsSizedRequest r.now → IsWritable r.now }
 {
     match r {
         Request::Receive { range }

@@ -1,6 +1,8 @@
-ghost use Rattle.std.specs.Prelude.{◌≡◌, ◌^◌, false};
+ghost use Rattle.std.specs.Prelude.{◌≡◌, ◌<◌, ◌^◌, false, true, None, Ok, length, IfOk};
 ghost use Rattle.std.specs.Io.{ReadsAtMost};
 ghost use Rattle.std.specs.Io.KnownBytes.{ReadConsumes};
+ghost use Rattle.link_face.specs.Bytes.{ReadAppends, Spends};
+ghost use Rattle.link_face.specs.Faults.{HasCause};
 
 use crate::failed::Failed;
 use crate::source::Source;
@@ -99,7 +101,22 @@ impl<R: Read> Source for InSource<R> {
 
     ghost faults = { λ s. s.faults };
 
-    fn read(&mut self, buf: &mut [u8]) -> Result<usize, Failed> {
+    fn read(&mut self, buf: &mut [u8]) -> Result<usize, Failed>
+        requires { 0 < length buf.old }
+        ensures count { ReadsAtMost result buf.new }
+        ensures left { ReadConsumes self.old.left self.new.left result buf.new }
+        ensures taken { ReadAppends None None result buf.new }
+        ensures budget { Spends self.old.budget self.new.budget result }
+        ensures bounded { self.old.budget < 2 ^ 64 }
+        ensures end { IfOk result (λ n. n ≡ 0 → self.new.has_ended ≡ true) }
+        ensures for_good { self.old.has_ended ≡ true →
+            (self.new.has_ended ≡ true) × IfOk result (λ n. n ≡ 0) }
+        ensures cause { HasCause self.old.faults self.new.faults result }
+
+        // Once the end was told it is told again, while there is budget, and the reader isn't asked.
+        ensures again { self.old.has_ended ≡ true → 0 < self.old.budget →
+            (result ≡ Ok 0) × (self.new ≡ self.old) }
+    {
         if self.budget > 0 {
             if self.has_ended {
                 return Ok(0);

@@ -14,10 +14,13 @@ pub use failing_sink::FailingSink;
 pub use failing_source::FailingSource;
 pub use fixed_day::FixedDay;
 pub use in_source::InSource;
+pub use joined::{FailingLink, Joined, MemLink};
+pub use link::Link;
 pub use mem_sink::MemSink;
 pub use mem_source::MemSource;
 pub use out_sink::OutSink;
 pub use sink::Sink;
+pub use socket_link::SocketLink;
 pub use source::Source;
 pub use system_day::SystemDay;
 
@@ -28,10 +31,13 @@ pub mod failing_source;
 mod fault_plan;
 pub mod fixed_day;
 pub mod in_source;
+pub mod joined;
+pub mod link;
 pub mod mem_sink;
 pub mod mem_source;
 pub mod out_sink;
 pub mod sink;
+pub mod socket_link;
 pub mod source;
 pub mod system_day;
 #[cfg(test)]

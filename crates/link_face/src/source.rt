@@ -1,4 +1,4 @@
-ghost use Rattle.std.specs.Prelude.{ℕ, List, Option, ◌≡◌, ◌<◌, ◌^◌, length, IfOk};
+ghost use Rattle.std.specs.Prelude.{ℕ, List, Option, ⊤, ◌≡◌, ◌<◌, ◌^◌, length, IfOk};
 ghost use Rattle.std.specs.Io.{ReadsAtMost};
 ghost use Rattle.std.specs.Io.KnownBytes.{ReadConsumes};
 ghost use Rattle.link_face.specs.Bytes.{ReadAppends, Spends};
@@ -25,6 +25,9 @@ pub trait Source {
     // how often it has failed
     ghost faults: { Self → ℕ };
 
+    // what else a read leaves as it was; a source that is a sink too says here what it keeps of that
+    ghost read_keeps: { Self → Self → Type 0 } = { λ _ _. ⊤ };
+
     /// Reads some bytes into the front of `buf` and says how many. `Ok(0)` is the end of the
     /// source, for good. With no budget left a read fails, also at the end.
     ///
@@ -42,5 +45,6 @@ pub trait Source {
         ensures end { IfOk result (λ n. n ≡ 0 → has_ended self.new) }
         ensures for_good { has_ended self.old → has_ended self.new × IfOk result (λ n. n ≡ 0) }
 
-        ensures cause { HasCause (faults self.old) (faults self.new) result };
+        ensures cause { HasCause (faults self.old) (faults self.new) result }
+        ensures keeps { read_keeps self.old self.new };
 }

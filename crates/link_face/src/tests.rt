@@ -9,6 +9,8 @@ use crate::{
 use std::time::Duration;
 use std::{io, rt};
 
+mod links;
+
 // The loop that a caller writes: the traits' clauses alone say what it copies, and why it fails.
 fn copy<S: Source, T: Sink>(source: &mut S, sink: &mut T) -> Result<(), Failed>
     ensures ok { OnOk result (IfSome (S.left source.old)
@@ -103,7 +105,7 @@ fn each_write_fails_in_turn(rt: HostRuntime) {
     assert_eq!(rt; (sink.bytes(), sink.faults()), (TEXT, 0));
 }
 
-// A reader of one byte, behind a signal and before a fault.
+// A reader of one byte, behind a signal and before a fault. Behind its end it would give bytes again.
 #[derive(Drop)]
 struct Shaken {
     turn: u8,
@@ -119,7 +121,8 @@ impl io::Read for Shaken {
                 Ok(1)
             }
             3 => Err(io::Error::from(io::ErrorKind::BrokenPipe)),
-            _ => Ok(0),
+            4 => Ok(0),
+            _ => Ok(buf.len()),
         }
     }
 }
@@ -131,22 +134,33 @@ fn reads_from_a_reader(rt: HostRuntime) {
     assert_eq!(rt; copy(&mut whole, &mut sink), Ok(()));
     assert_eq!(rt; (sink.bytes(), whole.faults()), (TEXT, 0));
 
-    // The budget is one short of what is needed to be told the end.
-    let mut sink = MemSink::new(rt.alloc());
-    let mut short = InSource::with_budget(TEXT, 10);
-    assert_eq!(rt; copy(&mut short, &mut sink), Err(Failed));
-    assert_eq!(rt; (sink.bytes(), short.faults()), (TEXT, 1));
-
-    let mut sink = MemSink::new(rt.alloc());
-    let mut cut = InSource::with_budget(TEXT, 7);
-    assert_eq!(rt; copy(&mut cut, &mut sink), Err(Failed));
-    assert_eq!(rt; (sink.bytes(), cut.faults()), (b"0123456".as_slice(), 1));
-
     let mut sink = MemSink::new(rt.alloc());
     let mut shaken = InSource::new(Shaken { turn: 0 });
     assert_eq!(rt; copy(&mut shaken, &mut sink), Err(Failed));
     assert_eq!(rt; (sink.bytes(), shaken.faults()), (b"7".as_slice(), 1));
     assert_eq!(rt; copy(&mut shaken, &mut sink), Ok(()));
+
+    // The end is for good: what the reader would give behind it isn't asked for.
+    assert_eq!(rt; copy(&mut shaken, &mut sink), Ok(()));
+    assert_eq!(rt; (sink.bytes(), shaken.faults()), (b"7".as_slice(), 1));
+}
+
+// Each byte of the budget is used, and one is left over where the end is told.
+#[test]
+fn reads_up_to_the_budget(rt: HostRuntime) {
+    for budget in 0..13usize {
+        let mut sink = MemSink::new(rt.alloc());
+        let mut source = InSource::with_budget(TEXT, budget as u64);
+        let told = copy(&mut source, &mut sink);
+        assert_eq!(rt; told == Ok(()), budget > TEXT.len(), "with {budget} bytes");
+        let most = budget.min(TEXT.len());
+        assert_eq!(rt; sink.bytes(), &TEXT[..most], "with {budget} bytes");
+        assert_eq!(rt;
+            source.faults() == 0,
+            budget > TEXT.len(),
+            "with {budget} bytes"
+        );
+    }
 }
 
 // A writer that takes nothing, and one that cannot be flushed.

@@ -4,14 +4,14 @@ ghost use Rattle.page_dir.specs.Pages.{AreDistinct, ArePages, joined, pages_at};
 ghost use Rattle.page_dir.specs.Sorted.{Rises, last_at_most, rank};
 ghost use Rattle.page_dir.specs.Splices.{spliced};
 
-use crate::locating::{Side, first_from, forward, locate, place_of};
+use crate::locating::{Side, first_from, locate, run_from};
 use crate::replacing::replace;
 use crate::spread::Spread;
 use crate::{Page, PageWalk, Steps};
 use slot_pool::{Pool, Slot};
 use std::alloc::{AllocError, Global};
-use std::marker::{Brand, Model};
-use std::sync::ledger::{Blank, Ledger};
+use std::marker::Model;
+use std::sync::ledger::Ledger;
 
 /// Pairs in the strict order of their keys. Making one takes memory, and nothing after that does.
 #[derive(Drop)]
@@ -55,6 +55,7 @@ impl<K: Ord + Copy, V: Copy> PageDir<K, V> {
     pub fn len(&self) -> u32
         ensures count { result ≡ length self.now.pairs }
         ensures within { length self.now.pairs ≤ self.now.room }
+        ensures rises { Rises K.cmp self.now.pairs }
     {
         self.len
     }
@@ -152,13 +153,9 @@ impl<K: Ord + Copy, V: Copy> PageDir<K, V> {
         ensures pairs { self.new.pairs ≡ spliced (rank K.cmp from.now self.old.pairs) n new.now self.old.pairs }
         ensures room { self.new.room ≡ self.old.room }
     {
-        let (page, at) = place_of::<K, V, Brand>(&self.spread, from, Blank::new(1));
-        let (page, at) = if n > 0 {
-            forward(&self.spread, page, at)
-        } else {
-            (page, at)
-        };
+        let (page, at) = run_from(&self.spread, from, n);
         replace(&mut self.spread, &mut self.carry, page, at, n as usize, new);
+        self.spread.pages_are_small();
         self.len = self.len - n + new.len() as u32;
     }
 }

@@ -3,11 +3,14 @@
 #![tactic(auto)]
 
 mod directory;
+pub mod laws;
 mod locating;
 mod page;
 mod replacing;
 mod spread;
 mod steps;
+#[cfg(test)]
+mod tests;
 mod tidying;
 mod walk;
 

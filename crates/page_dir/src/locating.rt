@@ -81,6 +81,7 @@ pub(crate) fn locate<K: Ord + Copy, V: Copy, L: Ledger>(spread: &Spread<(K, V)>,
     requires enough { (i : ℕ) → i < length (pages_in spread.now) → HoldsEnough (pages_in spread.now) i }
     requires rises { Rises K.cmp (joined (pages_in spread.now)) }
     ensures place { IsPlace (pages_in spread.now) result.0 result.1 }
+    ensures front { result.1 ≡ 0 → result.0 ≡ 0 }
     ensures before { start (pages_in spread.now) result.0 + result.1
         ≡ prefix_len (λ p. stands_before K.cmp side key.now p.0) (joined (pages_in spread.now)) }
     ensures counted { steps.old ≤ steps.new }
@@ -131,5 +132,19 @@ pub(crate) fn first_from<K: Ord + Copy, V: Copy>(spread: &Spread<(K, V)>, key: &
     ensures before { start (pages_in spread.now) result.0 + result.1 ≡ rank K.cmp key.now (joined (pages_in spread.now)) }
 {
     let (page, at) = place_of::<K, V, Brand>(spread, key, Blank::new(1));
+    forward(spread, page, at)
+}
+
+/// The place where a run of so many pairs begins: at the end of a page only where there is nothing in the run.
+pub(crate) fn run_from<K: Ord + Copy, V: Copy>(spread: &Spread<(K, V)>, key: &K, n: u32) -> (usize, usize)
+    requires enough { (i : ℕ) → i < length (pages_in spread.now) → HoldsEnough (pages_in spread.now) i }
+    requires rises { Rises K.cmp (joined (pages_in spread.now)) }
+    ensures place { IsPlace (pages_in spread.now) result.0 result.1 }
+    ensures before { start (pages_in spread.now) result.0 + result.1 ≡ rank K.cmp key.now (joined (pages_in spread.now)) }
+{
+    let (page, at) = place_of::<K, V, Brand>(spread, key, Blank::new(1));
+    if n == 0 {
+        return (page, at);
+    }
     forward(spread, page, at)
 }

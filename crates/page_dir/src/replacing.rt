@@ -1,5 +1,5 @@
 //! A splice of the items of pages.
-ghost use Rattle.std.specs.Prelude.{◌≡◌, ℕ, ◌+◌, ◌-◌, ◌<◌, ◌≤◌, length, take, drop, vec_capacity};
+ghost use Rattle.std.specs.Prelude.{◌≡◌, ℕ, ◌+◌, ◌-◌, ◌^◌, ◌<◌, ◌≤◌, length, take, drop, vec_capacity};
 ghost use Rattle.page_dir.specs.Pages.{HoldsEnough, joined, page_of};
 ghost use Rattle.page_dir.specs.Splices.{spliced};
 ghost use Rattle.page_dir.specs.Spread.{AreTidy, IsPlace, pages_in, start};
@@ -16,6 +16,8 @@ pub(crate) fn replace<T: Copy>(spread: &mut Spread<T>, carry: &mut Vec<T>, i: us
     requires enough { (k : ℕ) → k < length (pages_in spread.old) → HoldsEnough (pages_in spread.old) k }
     requires few { length new.now ≤ 64 }
     requires spare { 2 ≤ spread.old.spare }
+    requires small { length (pages_in spread.old) + spread.old.spare ≤ 2 ^ 30 }
+    requires all { length (joined (pages_in spread.old)) ≤ 2 ^ 30 }
     requires carry { 64 ≤ vec_capacity carry.old }
     ensures joined { joined (pages_in spread.new) ≡ spliced (start (pages_in spread.old) i + at) n new.now (joined (pages_in spread.old)) }
     ensures count { length (pages_in spread.new) + spread.new.spare ≡ length (pages_in spread.old) + spread.old.spare }
@@ -24,7 +26,7 @@ pub(crate) fn replace<T: Copy>(spread: &mut Spread<T>, carry: &mut Vec<T>, i: us
 {
     if i < spread.len() {
         let here = spread.page(i).len();
-        if at + n <= here && here - n + new.len() <= 64 {
+        if at + n <= here && here + new.len() <= 64 + n {
             spread.splice(i, at, n, new);
             tidy(spread, carry, i, i + 2);
             return;
@@ -41,6 +43,7 @@ fn part<T: Copy>(spread: &mut Spread<T>, carry: &mut Vec<T>, i: usize, at: usize
     requires place { IsPlace (pages_in spread.old) i at }
     requires enough { (k : ℕ) → k < length (pages_in spread.old) → HoldsEnough (pages_in spread.old) k }
     requires spare { 0 < spread.old.spare }
+    requires small { length (pages_in spread.old) ≤ 2 ^ 30 }
     requires carry { 64 ≤ vec_capacity carry.old }
     ensures joined { joined (pages_in spread.new) ≡ joined (pages_in spread.old) }
     ensures there { result ≤ length (pages_in spread.new) }
@@ -55,12 +58,13 @@ fn part<T: Copy>(spread: &mut Spread<T>, carry: &mut Vec<T>, i: usize, at: usize
     }
     let page = spread.page(i);
     let len = page.len();
-    if at < len {
-        carry.clear();
-        append(carry, &page[at..]);
-        spread.splice(i, at, len - at, &[]);
-        spread.add(i + 1, carry);
+    if at == len {
+        return i + 1;
     }
+    carry.clear();
+    append(carry, &page[at..]);
+    spread.splice(i, at, len - at, &[]);
+    spread.add(i + 1, carry);
     i + 1
 }
 

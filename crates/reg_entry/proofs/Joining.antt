@@ -73,8 +73,3 @@ joined_after_of_settled p [] h = refl
 joined_after_of_settled p (q ∷ qs) h =
     cond-false (can_join p q) (joined_after (joined_pair p q) qs) (p ∷ joined_after q qs) h.0
     ∙ ap (λ xs. p ∷ xs) (joined_after_of_settled q qs h.1)
-
--- where no neighbours can be joined, joining changes nothing
-pub joined_of_settled : (ps : List Piece) → IsSettled ps → joined ps ≡ ps
-joined_of_settled [] h = refl
-joined_of_settled (p ∷ ps) h = joined_after_of_settled p ps h

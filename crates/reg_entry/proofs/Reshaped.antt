@@ -107,9 +107,6 @@ cannot_join_left p q f =
     and_left ((p.range.last + 1 == q.range.first) && is_available p.card.status) (is_available q.card.status)
     (and_right (p.range.last + 1 == q.range.first) (is_available p.card.status) f)
 
-cannot_join_right : (p q : Piece) → is_available q.card.status ≡ false → can_join p q ≡ false
-cannot_join_right p q f = and_right ((p.range.last + 1 == q.range.first) && is_available p.card.status) (is_available q.card.status) f
-
 fixed_rest : (p : Piece) (ps : List Piece) (at : ℕ) → piece_holds p at ≡ false → IsFixedAt (p ∷ ps) at → IsFixedAt ps at
 fixed_rest p ps at f fixed q e = fixed q (cond-false (piece_holds p at) (Some p) (piece_at ps at) f ∙ e)
 

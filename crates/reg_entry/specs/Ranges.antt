@@ -1,5 +1,5 @@
 -- Ranges that carry a value, as a sorted list: sub-assignments and reverse entries are kept so.
-use Rattle.std.specs.Prelude.{◌≡◌, Bool, true, not, ◌&&◌, ◌||◌, ◌==◌, nat_lt, nat_le, if◌then◌else◌, List, [], ◌∷◌, Option, filter, find}
+use Rattle.std.specs.Prelude.{◌≡◌, true, not, ◌&&◌, ◌||◌, nat_lt, if◌then◌else◌, List, [], ◌∷◌, Option, filter, find}
 use Rattle.std.specs.Option.{option_map}
 pub use Rattle.num_range.specs.Space.{space_rank, same_space}
 use Rattle.num_range.specs.Range.{PlainRange, IsRange}
@@ -18,10 +18,6 @@ value_of_range rs r = option_map (λ p. p.1) (find (λ p. same_range p.0 r) rs)
 -- the first range that has a number in common with this one
 abbrev pub first_meeting : {T : Type 0} → List (PlainRange × T) → PlainRange → Option (PlainRange × T)
 first_meeting rs r = find (λ p. ranges_meet p.0 r) rs
-
--- the first range that this one lies inside
-abbrev pub enclosing : {T : Type 0} → List (PlainRange × T) → PlainRange → Option (PlainRange × T)
-enclosing rs r = find (λ p. lies_inside r p.0) rs
 
 -- the ranges that lie inside this one
 abbrev pub ranges_inside : {T : Type 0} → List (PlainRange × T) → PlainRange → List (PlainRange × T)

@@ -14,7 +14,7 @@ ghost use Rattle.reg_entry.specs.Sums.{status_sum};
 ghost use Rattle.reg_entry.specs.Objects.{bytes_before, key_before};
 ghost use Rattle.std.specs.Ordering.{is_lt};
 
-use crate::{Handle, Key, Name};
+use crate::{Handle, Key, Label, Name};
 use num_range::laws::ranges_are_in_order;
 
 /// The pieces of a space are pieces of it still once a card was painted over one of its ranges.
@@ -88,9 +88,10 @@ pub fn numbers_lie_in_one_piece()
     ensures { (space : Space) (ps : List Piece) (x : ℕ) → ArePieces space ps → cards_at ps x ≡ option_to_list (card_at ps x) }
 {}
 
-/// Handles and keys compare as the definitions put them in order: handles by their bytes, keys by class, then by handle or
-/// range.
+/// Labels and keys compare as the definitions put them in order: labels, handles and names by their bytes, keys by class,
+/// then by handle or range.
 pub fn keys_are_in_order()
+    ensures labels { (a b : List ℕ) → is_lt (⟦<Label as Ord>⟧.cmp a b) ≡ bytes_before a b }
     ensures handles { (a b : List ℕ) → is_lt (⟦<Handle as Ord>⟧.cmp a b) ≡ bytes_before a b }
     ensures names { (a b : List ℕ) → is_lt (⟦<Name as Ord>⟧.cmp a b) ≡ bytes_before a b }
     ensures keys { (a b : TheKey) → is_lt (⟦<Key as Ord>⟧.cmp a b) ≡ key_before a b }

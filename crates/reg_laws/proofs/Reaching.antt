@@ -1,5 +1,5 @@
 -- The registers that legal lists of entries give, and the facts that go on with the next entry.
-use Rattle.std.proofs.Common.{◌≡◌, ℕ, ◌+◌, ◌<◌, ◌==◌, Bool, true, false, cond, List, [], ◌∷◌, ◌++◌, length, Option, None, option_to_list, sym, ◌∙◌, refl, ap, subst, arith}
+use Rattle.std.proofs.Common.{◌≡◌, ℕ, ◌+◌, ◌<◌, ◌==◌, true, false, cond, List, [], ◌∷◌, ◌++◌, length, None, option_to_list, sym, ◌∙◌, refl, ap, subst, arith}
 use Rattle.std.specs.Option.{is_some, option_or}
 use Rattle.std.proofs.lemmas.Bool.{cond-false, both_ways, eqb-true, false_from_ne_true}
 use Rattle.num_range.specs.declared.space.Space.{Space}

@@ -12,7 +12,7 @@ use Rattle.desk_lang.specs.Grammar.{line_of}
 use Rattle.registry_main.specs.Session.{PlainSession, Step, answered, step_of, replies, replies_to}
 use Rattle.registry_main.specs.LineBuffer.{HasNoNewline, IsAnsweredAs}
 
-abbrev is_newline : ℕ → Bool
+abbrev pub is_newline : ℕ → Bool
 is_newline b = b == 10
 
 -- ---- the parts of a text between newlines
@@ -27,7 +27,7 @@ onto_splits : (b : ℕ) (parts : List (List ℕ)) → (first : List ℕ) × (oth
 onto_splits b [] = (b ∷ [], [], refl)
 onto_splits b (part ∷ parts) = (b ∷ part, parts, refl)
 
-splits : (text : List ℕ) → Splits text
+pub splits : (text : List ℕ) → Splits text
 splits [] = record { first = []; others = []; split = refl }
 splits (b ∷ bs) = elim (cases_Bool (b == 10)) [
   | inl e ↦ record { first = []; others = slice_split is_newline bs; split = rw e refl }
@@ -40,7 +40,7 @@ split_line : (line : List ℕ) (rest : List ℕ) → HasNoNewline line
 split_line [] rest h = refl
 split_line (b ∷ bs) rest h = rw h.0 (ap (onto_first b) (split_line bs rest h.1))
 
-split_last : (line : List ℕ) → HasNoNewline line → slice_split is_newline line ≡ line ∷ []
+pub split_last : (line : List ℕ) → HasNoNewline line → slice_split is_newline line ≡ line ∷ []
 split_last [] h = refl
 split_last (b ∷ bs) h = rw h.0 (ap (onto_first b) (split_last bs h.1))
 
@@ -68,7 +68,7 @@ replies_to-last r line h some = ap (replies r) (lines-last line h some) ∙ appe
 -- ---- lines that are too long
 
 -- such a line goes wrong behind its 1,024th byte
-abbrev too_long : PlainSession → Step
+abbrev pub too_long : PlainSession → Step
 too_long r = step_of r (Err (malformed_at 1025))
 
 overlong_is_malformed : (line : List ℕ) → 1024 < length line → line_of line ≡ Err (malformed_at 1025)
@@ -94,7 +94,7 @@ first_line (b ∷ bs) =
     onto (inl e) = inl (ap (λ l. b ∷ l) e)
     onto (inr w) = inr (w.0, ap (λ l. b ∷ l) w.1)
 
-no_newline-append : (xs ys : List ℕ) → HasNoNewline xs → HasNoNewline ys → HasNoNewline (xs ++ ys)
+pub no_newline-append : (xs ys : List ℕ) → HasNoNewline xs → HasNoNewline ys → HasNoNewline (xs ++ ys)
 no_newline-append [] ys h k = k
 no_newline-append (x ∷ xs) ys h k = (h.0, no_newline-append xs ys h.1 k)
 
@@ -105,11 +105,11 @@ strip_loses_one line = elim (cases_Bool (slice_index line (length line - 1) == 1
 ]
 
 -- what a line that is too long is answered doesn't depend on it
-answer_overlong : (r : PlainSession) (line : List ℕ) → 1024 < length line → answered r line ≡ too_long r
+pub answer_overlong : (r : PlainSession) (line : List ℕ) → 1024 < length line → answered r line ≡ too_long r
 answer_overlong r line long = ap (step_of r) (overlong_is_malformed line long)
 
 -- a text whose first line is too long, up to its end or up to a newline
-overlong-last : (r : PlainSession) (line : List ℕ) → HasNoNewline line → 1025 < length line
+pub overlong-last : (r : PlainSession) (line : List ℕ) → HasNoNewline line → 1025 < length line
     → replies_to r line ≡ (too_long r).text
 overlong-last r line h long =
     replies_to-last r line h (omega arith) ∙ ap (λ a. a.text) (answer_overlong r line (omega arith))

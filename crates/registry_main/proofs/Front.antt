@@ -67,7 +67,3 @@ pub if_said : (known : Option (List ℕ)) (said other : Result PlainPolicy Polic
     → (said ≡ other → P) → IfSaid known other P
 if_said None said other P h f = tt
 if_said (Some bytes) said other P h f = λ e. f (sym h ∙ e)
-
-pub if_said_always : (known : Option (List ℕ)) (other : Result PlainPolicy PolicyFault) {P : Type 0} → P → IfSaid known other P
-if_said_always None other p = tt
-if_said_always (Some bytes) other p = λ e. p

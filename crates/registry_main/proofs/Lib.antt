@@ -4,4 +4,5 @@ pub mod Front
 pub mod OneWord
 mod Rows
 pub mod Shown
+pub mod UpToDate
 pub mod Written

@@ -26,7 +26,7 @@ use Rattle.reg_entry.specs.Policy.{PlainPolicy, policy_row, lists_kind}
 use Rattle.reg_entry.specs.Register.{Register, register_pieces, piece_of}
 use Rattle.reg_entry.specs.Whole.{IsCardIn, IsWholeRegister}
 use Rattle.board.proofs.Known.{card_in, card_holder}
-use Rattle.desk_lang.specs.ReplyText.{RefusalHasDate, ReplyHasDate}
+use Rattle.desk_text.specs.ReplyText.{RefusalHasDate, ReplyHasDate}
 
 -- ---- pieces
 

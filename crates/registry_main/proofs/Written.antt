@@ -147,17 +147,6 @@ written_begins w r line None = tt
 written_begins None r line (Some left) = tt
 written_begins (Some xs) r line (Some left) = (replies_to r (line ++ left), refl)
 
--- a piece was read and answered
-pub piece_read : (w w' : Option (List ℕ)) (r r' : PlainSession) (line line' piece : List ℕ) (left left' : Option (List ℕ))
-    → Consumes left left' piece
-    → ((tail : List ℕ) → Keeps (with_replies w r (line ++ (piece ++ tail))) (with_replies w' r' (line' ++ tail)))
-    → Keeps (with_all_replies w r line left) (with_all_replies w' r' line' left')
-piece_read w w' r r' line line' piece None left' c answered = tt
-piece_read w w' r r' line line' piece (Some xs) None c answered = absurd c
-piece_read w w' r r' line line' piece (Some xs) (Some ys) c answered =
-    let P : List ℕ → Type 0 = λ zs. Keeps (with_replies w r (line ++ zs)) (with_replies w' r' (line' ++ ys)) in
-    subst P (sym c) (answered ys)
-
 -- a piece was read, and its answers broke off
 pub piece_broken : (w w' : Option (List ℕ)) (r : PlainSession) (line piece : List ℕ) (left left' : Option (List ℕ))
     → Consumes left left' piece
@@ -178,12 +167,6 @@ script_ended w r line (Some xs) None c e = absurd c
 script_ended None r line (Some xs) (Some ys) c e = tt
 script_ended (Some written) r line (Some xs) (Some ys) c e =
     ap (λ t. written ++ replies_to r t) (sym (append-nil line) ∙ ap (λ l. line ++ l) (sym (c ∙ e)))
-
--- the last line was answered, where there is one
-pub no_last_line : (w : Option (List ℕ)) (r : PlainSession) (line : List ℕ) → length line ≡ 0 → Keeps (with_replies w r line) w
-no_last_line None r line e = tt
-no_last_line (Some xs) r [] e = sym (append-nil xs)
-no_last_line (Some xs) r (b ∷ bs) e = absurd (omega arith)
 
 pub last_answered : (w w' : Option (List ℕ)) (r : PlainSession) (line : List ℕ) → HasNoNewline line → 0 < length line
     → Appends w w' (answered r line).text → Keeps (with_replies w r line) w'
@@ -207,18 +190,16 @@ OnErr_map (Err e) f p = f p
 
 -- ---- the end of the script, after which the last line is answered
 
-pub script_answered : {T E : Type 0} (result : Result T E) (whole w w' : Option (List ℕ)) (r : PlainSession) (line : List ℕ) (left left' : Option (List ℕ))
+pub script_answered : (whole w w' : Option (List ℕ)) (r : PlainSession) (line : List ℕ) (left left' : Option (List ℕ))
     → Keeps whole (with_all_replies w r line left) → Consumes left left' [] → IsAtEnd left'
-    → OnOk result (Keeps (with_replies w r line) w') → OnOk result (Keeps whole w')
-script_answered (Ok x) whole w w' r line left left' kept c e h =
+    → Keeps (with_replies w r line) w' → Keeps whole w'
+script_answered whole w w' r line left left' kept c e h =
     Keeps-trans _ _ _ kept (Keeps-trans _ _ _ (script_ended w r line left left' c e) h)
-script_answered (Err x) whole w w' r line left left' kept c e h = tt
 
-pub script_broken : {T E : Type 0} (result : Result T E) (whole w w' : Option (List ℕ)) (r : PlainSession) (line : List ℕ) (left left' : Option (List ℕ))
+pub script_broken : (whole w w' : Option (List ℕ)) (r : PlainSession) (line : List ℕ) (left left' : Option (List ℕ))
     → Keeps whole (with_all_replies w r line left) → Consumes left left' [] → IsAtEnd left'
-    → OnErr result (BeginsWith (with_replies w r line) w') → OnErr result (BeginsWith whole w')
-script_broken (Ok x) whole w w' r line left left' kept c e h = tt
-script_broken (Err x) whole w w' r line left left' kept c e h =
+    → BeginsWith (with_replies w r line) w' → BeginsWith whole w'
+script_broken whole w w' r line left left' kept c e h =
     BeginsWith_kept _ _ _ kept (BeginsWith_kept _ _ _ (script_ended w r line left left' c e) h)
 
 -- ---- the batch

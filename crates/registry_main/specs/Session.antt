@@ -19,8 +19,9 @@ use Rattle.desk_lang.specs.declared.line.Line.{Line}
 use Rattle.desk_lang.specs.declared.line.Line.TheVariants.{Request, Show, Due, Day, By, Nothing}
 use Rattle.desk_lang.specs.declared.rest.Malformed.{Malformed}
 use Rattle.desk_lang.specs.Grammar.{line_of}
-use Rattle.desk_lang.specs.ReplyText.{reply_text, spaced_range}
-use Rattle.desk_lang.specs.ShownText.{piece_text}
+use Rattle.desk_text.specs.DueText.{due_text}
+use Rattle.desk_text.specs.ReplyText.{reply_text}
+use Rattle.desk_text.specs.ShownText.{none_text, piece_text}
 
 -- ---- the session
 
@@ -68,17 +69,8 @@ after_reply s (Refused refusal) = s
 
 -- the piece, with its holder's handle, where one holds the number
 abbrev pub shown_text : Register → Option Piece → List ℕ
-shown_text r None = codes "none"
+shown_text r None = none_text
 shown_text r (Some piece) = piece_text piece (handle_of r.holders piece.card.holder)
-
--- a line a piece
-abbrev pub piece_lines : List Piece → List ℕ
-piece_lines [] = []
-piece_lines (piece ∷ more) = (spaced_range piece.range ++ codes "\n") ++ piece_lines more
-
--- how many pieces there are, and then these
-abbrev pub due_text : List Piece → List ℕ
-due_text pieces = (codes "due " ++ decimal (length pieces) ++ codes "\n") ++ piece_lines pieces
 
 -- the pieces whose quarantine ends by the session's day, or by that of the last entry where it is later
 abbrev pub pieces_due : PlainSession → List Piece

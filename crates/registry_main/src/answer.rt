@@ -4,15 +4,15 @@ ghost use Rattle.std.specs.Io.KnownBytes.{Appends};
 ghost use Rattle.link_face.specs.Bytes.{AppendsPrefix};
 ghost use Rattle.link_face.specs.Faults.{HasCause};
 ghost use Rattle.reg_entry.specs.Days.{last_date};
-ghost use Rattle.desk_lang.specs.ReplyText.{reply_text, ReplyHasDate};
-ghost use Rattle.desk_lang.specs.ShownText.{piece_text};
+ghost use Rattle.desk_text.specs.ReplyText.{reply_text, ReplyHasDate};
+ghost use Rattle.desk_text.specs.ShownText.{none_text, piece_text};
 ghost use Rattle.registry_main.specs.Answer.{answer_text, HasDates};
 ghost use Rattle.registry_main.specs.Batch.{BeginsWith, IsFrontWritten};
 
+use crate::answer_line::{AnswerLine, write_line};
 use crate::due_lines::write_due;
 use crate::session::Session;
-use arrayvec::ArrayVec;
-use desk_lang::{write_piece, write_reply};
+use desk_text::{write_none, write_piece, write_reply};
 use link_face::{Failed, Sink};
 use reg_entry::{Handle, Piece, Reply};
 
@@ -37,10 +37,9 @@ fn write_decided<K: Sink>(reply: &Reply, out: &mut K) -> Result<(), Failed>
     ensures err { OnErr result (AppendsPrefix (K.written out.old) (K.written out.new) (reply_text reply.now ++ codes "\n")) }
     ensures cause { HasCause (K.faults out.old) (K.faults out.new) result }
 {
-    let mut text = ArrayVec::new();
-    write_reply(reply, &mut text);
-    text.push(b'\n');
-    out.write(text.as_slice())
+    let mut line = AnswerLine::new();
+    write_reply(reply, &mut line);
+    write_line(&mut line, out)
 }
 
 fn write_shown<K: Sink>(piece: &Piece, handle: &Option<Handle>, out: &mut K) -> Result<(), Failed>
@@ -49,10 +48,19 @@ fn write_shown<K: Sink>(piece: &Piece, handle: &Option<Handle>, out: &mut K) -> 
     ensures err { OnErr result (AppendsPrefix (K.written out.old) (K.written out.new) (piece_text piece.now handle.now ++ codes "\n")) }
     ensures cause { HasCause (K.faults out.old) (K.faults out.new) result }
 {
-    let mut text = ArrayVec::new();
-    write_piece(piece, handle, &mut text);
-    text.push(b'\n');
-    out.write(text.as_slice())
+    let mut line = AnswerLine::new();
+    write_piece(piece, handle, &mut line);
+    write_line(&mut line, out)
+}
+
+fn write_outside<K: Sink>(out: &mut K) -> Result<(), Failed>
+    ensures ok { OnOk result (Appends (K.written out.old) (K.written out.new) (none_text ++ codes "\n")) }
+    ensures err { OnErr result (AppendsPrefix (K.written out.old) (K.written out.new) (none_text ++ codes "\n")) }
+    ensures cause { HasCause (K.faults out.old) (K.faults out.new) result }
+{
+    let mut line = AnswerLine::new();
+    write_none(&mut line);
+    write_line(&mut line, out)
 }
 
 impl Answer {
@@ -68,7 +76,7 @@ impl Answer {
             Answer::Silent => Ok(()),
             Answer::Decided(reply) => write_decided(reply, out),
             Answer::Shown(piece, handle) => write_shown(piece, handle, out),
-            Answer::Outside => out.write(b"none\n"),
+            Answer::Outside => write_outside(out),
             Answer::Due => write_due(session.pieces(), session.due_day(), out),
         }
     }

@@ -1,17 +1,17 @@
 //! A script, read in pieces and answered line by line.
-ghost use Rattle.std.specs.Prelude.{◌≡◌, ◌≤◌, ◌<◌, ◌+◌, ◌++◌, ◌^◌, ℕ, List, [], length, ◌∷◌, OnOk, OnErr, MatchOption, ◌≢◌};
+ghost use Rattle.std.specs.Prelude.{◌≡◌, ◌≢◌, ◌≤◌, ◌++◌, ℕ, List, [], ◌∷◌, Err, OnOk, OnErr, MatchOption};
 ghost use Rattle.std.specs.Io.KnownBytes.{Appends, Keeps, IsAtEnd};
 ghost use Rattle.std.specs.Str.Lines.{strip_carriage_return};
-ghost use Rattle.link_face.specs.Faults.{HasRisen};
+ghost use Rattle.link_face.specs.Faults.{HasCause, HasRisen};
 ghost use Rattle.registry_main.specs.Session.{answered};
 ghost use Rattle.registry_main.specs.LineBuffer.{HasNoNewline};
-ghost use Rattle.registry_main.specs.Batch.{with_replies, with_all_replies, BeginsWith, IsFrontWritten};
+ghost use Rattle.registry_main.specs.Batch.{with_replies, with_all_replies, BeginsWith, IsFrontWritten, IsUpToDate, known};
 ghost use Rattle.registry_main.specs.declared.batch.Stop.TheVariants.{Read, Write};
 
 use crate::line_buffer::LineBuffer;
 use crate::session::Session;
 use desk_lang::parted_at;
-use link_face::{Sink, Source};
+use link_face::{Failed, Sink, Source};
 
 /// How many bytes are read at once.
 const PIECE: usize = 8192;
@@ -34,31 +34,28 @@ fn without_return(line: &[u8]) -> &[u8]
 }
 
 /// Answers one line, which is handed in without its line end.
-fn answer_line<K: Sink>(session: &mut Session, line: &[u8], out: &mut K) -> Result<(), Stop>
+fn answer_line<K: Sink>(session: &mut Session, line: &[u8], out: &mut K) -> Result<(), Failed>
     ensures ok { OnOk result (Appends (K.written out.old) (K.written out.new) (answered session.old line.now).text) }
     ensures session { OnOk result (session.new ≡ (answered session.old line.now).session) }
     ensures err { OnErr result (IsFrontWritten (K.written out.old) (answered session.old line.now).text (K.written out.new)) }
-    ensures faults { K.faults out.old ≤ K.faults out.new }
-    ensures write { result ≡ Err Write → HasRisen (K.faults out.old) (K.faults out.new) }
-    ensures no_read { result ≢ Err Read }
+    ensures cause { HasCause (K.faults out.old) (K.faults out.new) result }
 {
     let answer = session.answer(line);
-    match answer.write(session, out) {
-        Ok(()) => Ok(()),
-        Err(_) => Err(Stop::Write),
-    }
+    answer.write(session, out)
 }
 
 /// Answers the line that is kept, whose end has come, and begins the next.
-fn end_line<K: Sink>(session: &mut Session, line: &mut LineBuffer, out: &mut K) -> Result<(), Stop>
+fn end_line<K: Sink>(
+    session: &mut Session,
+    line: &mut LineBuffer,
+    out: &mut K,
+) -> Result<(), Failed>
     ensures ok { OnOk result ((tail : List ℕ) →
         Keeps (with_replies (K.written out.old) session.old (line.old ++ 10 ∷ tail)) (with_replies (K.written out.new) session.new tail)) }
     ensures empty { OnOk result (line.new ≡ []) }
     ensures err { OnErr result ((tail : List ℕ) →
         BeginsWith (with_replies (K.written out.old) session.old (line.old ++ 10 ∷ tail)) (K.written out.new)) }
-    ensures faults { K.faults out.old ≤ K.faults out.new }
-    ensures write { result ≡ Err Write → HasRisen (K.faults out.old) (K.faults out.new) }
-    ensures no_read { result ≢ Err Read }
+    ensures cause { HasCause (K.faults out.old) (K.faults out.new) result }
 {
     answer_line(session, without_return(line.bytes()), out)?;
     line.clear();
@@ -79,14 +76,13 @@ fn answer_lines<K: Sink>(
     line: &mut LineBuffer,
     piece: &[u8],
     out: &mut K,
-) -> Result<(), Stop>
+) -> Result<(), Failed>
     ensures ok { OnOk result ((tail : List ℕ) →
         Keeps (with_replies (K.written out.old) session.old (line.old ++ (piece.now ++ tail))) (with_replies (K.written out.new) session.new (line.new ++ tail))) }
+    ensures line { OnOk result (HasNoNewline line.new) }
     ensures err { OnErr result ((tail : List ℕ) →
         BeginsWith (with_replies (K.written out.old) session.old (line.old ++ (piece.now ++ tail))) (K.written out.new)) }
-    ensures faults { K.faults out.old ≤ K.faults out.new }
-    ensures write { result ≡ Err Write → HasRisen (K.faults out.old) (K.faults out.new) }
-    ensures no_read { result ≢ Err Read }
+    ensures cause { HasCause (K.faults out.old) (K.faults out.new) result }
 {
     let mut rest = piece;
     'lines: while let Some((front, behind)) = part_at_newline(rest) {
@@ -99,12 +95,10 @@ fn answer_lines<K: Sink>(
 }
 
 /// Answers the last line, where it has no line end.
-fn end_script<K: Sink>(session: &mut Session, line: &LineBuffer, out: &mut K) -> Result<(), Stop>
+fn end_script<K: Sink>(session: &mut Session, line: &LineBuffer, out: &mut K) -> Result<(), Failed>
     ensures ok { OnOk result (Keeps (with_replies (K.written out.old) session.old line.now) (K.written out.new)) }
     ensures err { OnErr result (BeginsWith (with_replies (K.written out.old) session.old line.now) (K.written out.new)) }
-    ensures faults { K.faults out.old ≤ K.faults out.new }
-    ensures write { result ≡ Err Write → HasRisen (K.faults out.old) (K.faults out.new) }
-    ensures no_read { result ≢ Err Read }
+    ensures cause { HasCause (K.faults out.old) (K.faults out.new) result }
 {
     let text = line.bytes();
     if text.is_empty() {
@@ -113,7 +107,7 @@ fn end_script<K: Sink>(session: &mut Session, line: &LineBuffer, out: &mut K) ->
     answer_line(session, text, out)
 }
 
-/// Answers a script up to its end. The replies to the lines that have come are written before the next read.
+/// Answers a script up to its end. The answers to the lines that have come are written before the next read.
 pub fn answer_script<T: Source, K: Sink>(
     session: &mut Session,
     script: &mut T,
@@ -121,9 +115,16 @@ pub fn answer_script<T: Source, K: Sink>(
 ) -> Result<(), Stop>
     ensures ok { OnOk result (Keeps (with_all_replies (K.written out.old) session.old [] (T.left script.old)) (K.written out.new)) }
     ensures end { OnOk result (IsAtEnd (T.left script.new)) }
+    ensures ended { OnOk result (T.has_ended script.new) }
     ensures err { OnErr result (BeginsWith (with_all_replies (K.written out.old) session.old [] (T.left script.old)) (K.written out.new)) }
+    ensures up_to_date { result ≡ Err Read → IsUpToDate session.old
+        (known (T.taken script.old) (T.left script.old) (K.written out.old)) (known (T.taken script.new) (T.left script.new) (K.written out.new)) }
+
+    // A fault of a read or a write ends the script, and is what is answered.
     ensures read { result ≡ Err Read → HasRisen (T.faults script.old) (T.faults script.new) }
+    ensures read_told { result ≢ Err Read → T.faults script.new ≡ T.faults script.old }
     ensures write { result ≡ Err Write → HasRisen (K.faults out.old) (K.faults out.new) }
+    ensures write_told { result ≢ Err Write → K.faults out.new ≡ K.faults out.old }
 {
     let mut piece = [0; PIECE];
     let mut line = LineBuffer::new();
@@ -131,8 +132,15 @@ pub fn answer_script<T: Source, K: Sink>(
         match script.read(&mut piece) {
             Err(_) => return Err(Stop::Read),
             Ok(0) => break,
-            Ok(count) => answer_lines(session, &mut line, &piece[..count], out)?,
+            Ok(count) => {
+                if let Err(Failed) = answer_lines(session, &mut line, &piece[..count], out) {
+                    return Err(Stop::Write);
+                }
+            }
         }
     }
-    end_script(session, &line, out)
+    match end_script(session, &line, out) {
+        Ok(()) => Ok(()),
+        Err(Failed) => Err(Stop::Write),
+    }
 }

@@ -45,7 +45,8 @@ impl LineBuffer {
     /// The line goes on with these bytes.
     pub fn extend(&mut self, bytes: &[u8])
         requires { HasNoNewline bytes.now }
-        ensures { IsAnsweredAs self.new (self.old ++ bytes.now) }
+        ensures answered { IsAnsweredAs self.new (self.old ++ bytes.now) }
+        ensures line { HasNoNewline self.new }
     {
         keep_front(&mut self.bytes, bytes);
     }

@@ -2,6 +2,7 @@
 #![tactic(auto)]
 
 mod answer;
+mod answer_line;
 mod batch;
 mod due_lines;
 mod exit;

@@ -44,6 +44,7 @@ fn read_front<S: Source>(alloc: Global, source: &mut S) -> Result<Vec<u8>, NoPol
     ensures front { IfOk result (λ bytes. IsFrontOf (S.left source.old) bytes.items) }
     ensures bounded { S.budget source.old ≤ S.budget source.new + policy_front }
     ensures read { result ≡ Err Read → HasRisen (S.faults source.old) (S.faults source.new) }
+    ensures read_told { result ≢ Err Read → S.faults source.new ≡ S.faults source.old }
     ensures no_refusal { (fault : PolicyFault) → result ≢ Err (Refused fault) }
 {
     let mut piece = [0; PIECE];
@@ -86,6 +87,7 @@ pub fn read_policy<S: Source>(alloc: Global, source: &mut S) -> Result<Policy, N
     ensures no_memory { result ≢ Err (Refused NoMemory) }
     ensures bounded { S.budget source.old ≤ S.budget source.new + policy_front }
     ensures read { result ≡ Err Read → HasRisen (S.faults source.old) (S.faults source.new) }
+    ensures read_told { result ≢ Err Read → S.faults source.new ≡ S.faults source.old }
 {
     let bytes = read_front(alloc, source)?;
     policy_from(alloc, &bytes)

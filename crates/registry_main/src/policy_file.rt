@@ -13,7 +13,9 @@ pub enum PolicyFile {
 impl PolicyFile {
     /// The file of this name in the folder where the program runs.
     pub fn open(rt: &HostRuntime, name: &str) -> PolicyFile {
-        match File::open(rt, name) {
+        // Where standard input is closed the file is opened in its place, and would be read as the script. A second handle
+        // never stands in the place of a standard stream.
+        match File::open(rt, name).and_then(|file| file.try_clone()) {
             Ok(file) => PolicyFile::Open(file),
             Err(_) => PolicyFile::Missing,
         }

@@ -14,7 +14,7 @@ ghost use Rattle.policy_table.specs.declared.fault.PolicyFault.TheVariants as fa
 ghost use Rattle.link_face.specs.Faults.{HasRisen};
 ghost use Rattle.board.specs.Conserved.{IsConservedBy};
 ghost use Rattle.registry_main.specs.Session.{rooms, entries_after, register_over};
-ghost use Rattle.registry_main.specs.Batch.{IsAnswered};
+ghost use Rattle.registry_main.specs.Batch.{known, IsAnswered};
 ghost use Rattle.registry_main.specs.PolicyBytes.{policy_front, IsSaid, IfSaid};
 ghost use Rattle.registry_main.specs.declared.exit.Exit.TheVariants.{Done, Usage, PolicyRefused, ReadFault, WriteFault, NoMemory};
 
@@ -45,11 +45,16 @@ fn answer_batch<T: Source, K: Sink, C: Clock>(
     clock: &C,
 ) -> Exit
     ensures answered { (day : ℕ) × C.states clock.now day
-        × IsAnswered policy day (K.written out.old) (T.left script.old) result (K.written out.new) (T.left script.new) }
+        × IsAnswered policy day (known (T.taken script.old) (T.left script.old) (K.written out.old)) result
+        (known (T.taken script.new) (T.left script.new) (K.written out.new)) }
+    ensures ended { result ≡ Done → T.has_ended script.new }
+    ensures unread { result ≡ NoMemory → (script.new ≡ script.old) × (out.new ≡ out.old) }
     ensures no_usage { result ≢ Usage }
     ensures no_refusal { (fault : PolicyFault) → result ≢ PolicyRefused fault }
     ensures read { result ≡ ReadFault → HasRisen (T.faults script.old) (T.faults script.new) }
+    ensures read_told { result ≢ ReadFault → T.faults script.new ≡ T.faults script.old }
     ensures write { result ≡ WriteFault → HasRisen (K.faults out.old) (K.faults out.new) }
+    ensures write_told { result ≢ WriteFault → K.faults out.new ≡ K.faults out.old }
 {
     let Ok(mut session) = Session::new(alloc, policy, clock.day()) else {
         return Exit::NoMemory;
@@ -85,15 +90,24 @@ pub fn run<R: AllocGlobal, S: Source, T: Source, K: Sink, C: Clock>(
     ensures bounded { S.budget policy.old ≤ S.budget policy.new + policy_front }
 
     // Where the words and the policy are good, what is written are the replies of the register that the lines of the
-    // script build under the policy, on a day of the clock.
+    // script build under the policy, on a day of the clock. The replies to the lines that have come are written before
+    // more is read. Done comes at the script's end alone.
     ensures answered { ((result ≢ Done) × (script.new ≡ script.old) × (out.new ≡ out.old))
         ⊎ ((p : PlainPolicy) × IsPolicy p × IsSaid (S.left policy.old) (Ok p) × (day : ℕ) × C.states clock.old day
-        × IsAnswered p day (K.written out.old) (T.left script.old) result (K.written out.new) (T.left script.new)) }
+        × IsAnswered p day (known (T.taken script.old) (T.left script.old) (K.written out.old)) result
+        (known (T.taken script.new) (T.left script.new) (K.written out.new))) }
+    ensures ended { result ≡ Done → T.has_ended script.new }
 
-    // A fault is answered only where the outside failed in this run.
+    // Want of memory is told before anything is read of the script.
+    ensures unread { result ≡ NoMemory → (script.new ≡ script.old) × (out.new ≡ out.old) }
+
+    // A fault is answered only where the outside failed in this run, and where it did the run ends with that fault.
     ensures read_fault { result ≡ ReadFault →
         HasRisen (S.faults policy.old) (S.faults policy.new) ⊎ HasRisen (T.faults script.old) (T.faults script.new) }
+    ensures read_told { result ≢ ReadFault →
+        (S.faults policy.new ≡ S.faults policy.old) × (T.faults script.new ≡ T.faults script.old) }
     ensures write_fault { result ≡ WriteFault → HasRisen (K.faults out.old) (K.faults out.new) }
+    ensures write_told { result ≢ WriteFault → K.faults out.new ≡ K.faults out.old }
 
     // Whatever legal entries were there, under each policy the entries that a script's requests become go on with them
     // legally, and its register is that of all of them.

@@ -4,7 +4,7 @@ ghost use Rattle.reg_entry.specs.declared.entry.Reply.TheVariants.{Refused};
 ghost use Rattle.reg_entry.specs.declared.refusal.Refusal.TheVariants.{Malformed};
 ghost use Rattle.reg_entry.specs.Holders.{handle_of};
 ghost use Rattle.reg_entry.specs.Register.{piece_of};
-ghost use Rattle.desk_lang.specs.ReplyText.{ReplyHasDate};
+ghost use Rattle.desk_text.specs.ReplyText.{ReplyHasDate};
 ghost use Rattle.registry_main.specs.Answer.{answer_text, HasDates};
 ghost use Rattle.registry_main.specs.declared.answer.Answer.TheVariants.{Shown};
 ghost use Rattle.registry_main.specs.Session.{new_session, decided, after_reply, shown_text, step_of, answered};

@@ -1,8 +1,10 @@
-use Rattle.std.proofs.Common.{◌≡◌, refl}
-use Rattle.reg_entry.specs.declared.object.Key.{Key as TheKey}
+use Rattle.std.proofs.Common.{refl}
 use Rattle.reg_entry.specs.declared.object.Key.TheVariants.{Org, Block, Sub, Cut}
 use Rattle.reg_entry.proofs.Orders.{bytes_in_order}
 use Rattle.reg_entry.proofs.laws.keys_are_in_order.Goals as goal
+
+pub returns-clause-labels : goal.returns-clause-labels
+returns-clause-labels c = bytes_in_order
 
 pub returns-clause-handles : goal.returns-clause-handles
 returns-clause-handles c = bytes_in_order

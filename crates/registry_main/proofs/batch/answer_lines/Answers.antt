@@ -1,4 +1,4 @@
-use Rattle.std.proofs.Common.{◌≡◌, ◌+◌, ◌++◌, ◌∷◌, ℕ, List, Option, ap, length, arith, length-append}
+use Rattle.std.proofs.Common.{◌≡◌, ◌+◌, ◌++◌, ◌∷◌, ℕ, List, Option, ap, length, arith, length-append, ◌∙◌}
 use Rattle.registry_main.proofs.Written.{piece_goes_on, piece_breaks, piece_held, OnErr_always}
 use Rattle.registry_main.specs.Batch.{with_replies}
 use Rattle.registry_main.proofs.batch.answer_lines.Goals as goal
@@ -12,7 +12,7 @@ returns-in_err-end_line-clause-err g c =
     let whole : List ℕ → Option (List ℕ) =
     λ tail. with_replies (g.K.Sink.written c.args.out.now) c.args.session.now (c.args.line.now ++ (c.args.piece.now ++ tail)) in
     OnErr_always _ (piece_breaks whole _ _ _ c.lines.line c.in-Some.front.now c.in-Some.behind.now c.lines.rest.now c.extend.new.self
-    c.lines.invariant.kept c.extend.ensures c.in-Some.ensures.1 c.in_err-end_line.ensures.err)
+    c.lines.invariant.kept c.extend.ensures.answered c.in-Some.ensures.1 c.in_err-end_line.ensures.err)
 
 pub lines-preserved : goal.lines-preserved
 lines-preserved g c =
@@ -20,13 +20,13 @@ lines-preserved g c =
     λ tail. with_replies (g.K.Sink.written c.args.out.now) c.args.session.now (c.args.line.now ++ (c.args.piece.now ++ tail)) in
     let less = shorter c.in-Some.front.now c.in-Some.behind.now c.lines.rest.now c.in-Some.ensures.1 in
     record {
-      faults = omega arith;
+      faults = c.in_ok-end_line.ensures.cause.same ∙ c.lines.invariant.faults;
       kept = piece_goes_on whole _ _ _ _ c.lines.line c.in-Some.front.now c.in-Some.behind.now c.lines.rest.now c.extend.new.self c.end_line.new.line
-          c.lines.invariant.kept c.extend.ensures c.in-Some.ensures.1 c.in_ok-end_line.ensures.ok c.in_ok-end_line.ensures.empty;
+          c.lines.invariant.kept c.extend.ensures.answered c.in-Some.ensures.1 c.in_ok-end_line.ensures.ok c.in_ok-end_line.ensures.empty;
     }
 
 pub returns-clause-ok : goal.returns-clause-ok
 returns-clause-ok g c =
     let whole : List ℕ → Option (List ℕ) =
     λ tail. with_replies (g.K.Sink.written c.args.out.now) c.args.session.now (c.args.line.now ++ (c.args.piece.now ++ tail)) in
-    piece_held whole _ _ c.lines.line c.lines.rest.now c.extend-2.new.self c.lines.invariant.kept c.extend-2.ensures
+    piece_held whole _ _ c.lines.line c.lines.rest.now c.extend-2.new.self c.lines.invariant.kept c.extend-2.ensures.answered

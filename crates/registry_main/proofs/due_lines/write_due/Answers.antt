@@ -1,9 +1,9 @@
-use Rattle.std.proofs.Common.{ℕ, List, length, subst, ap, arith, codes, decimal, ◌++◌}
+use Rattle.std.proofs.Common.{ℕ, List, length, subst, ap, codes, decimal, ◌++◌, ◌∙◌}
 use Rattle.link_face.specs.Bytes.{AppendsPrefix}
 use Rattle.quarantine.specs.Due.{due_pieces}
 use Rattle.std.proofs.KnownBytes.{Keeps-trans, append_known-moved}
-use Rattle.desk_lang.specs.ReplyText.{spaced_range}
-use Rattle.registry_main.specs.Session.{piece_lines}
+use Rattle.desk_text.specs.ReplyText.{spaced_range}
+use Rattle.desk_text.specs.DueText.{piece_lines}
 use Rattle.registry_main.proofs.Written.{front_more, prefix_begins, BeginsWith_kept, OnErr_always}
 use Rattle.registry_main.proofs.due_lines.write_due.Goals as goal
 
@@ -19,7 +19,7 @@ pub loop-piece-preserved : goal.loop-piece-preserved
 loop-piece-preserved g c = record {
   next = tt;
   finite = tt;
-  faults = omega arith;
+  faults = c.in_ok-write_piece_range.ensures.cause.same ∙ c.loop-piece.invariant.faults;
   kept = Keeps-trans _ _ _ c.loop-piece.invariant.kept
       (append_known-moved _ _ (spaced_range c.in-Some.piece.range ++ codes "\n") (piece_lines c.next.new.self) _
       c.in_ok-write_piece_range.ensures.ok (ap piece_lines c.in-Some.ensures.steps));

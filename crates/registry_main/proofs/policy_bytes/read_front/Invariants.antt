@@ -7,7 +7,7 @@ invariant-pieces g l = record {
   room : length l.piece ≡ 4096;
   within : length l.bytes.items ≤ 65537;
   spent : g.S.Source.budget l.source + length l.bytes.items ≡ g.S.Source.budget l.initial.source;
-  reads : g.S.Source.faults l.initial.source ≤ g.S.Source.faults l.source;
+  reads : g.S.Source.faults l.source ≡ g.S.Source.faults l.initial.source;
   consumed : Consumes (g.S.Source.left l.initial.source) (g.S.Source.left l.source) l.bytes.items;
 }
 

@@ -4,5 +4,8 @@ use Rattle.registry_main.proofs.line_buffer.LineBuffer.extend.Goals as goal
 pub invariant_of-self : goal.invariant_of-self
 invariant_of-self c = kept_line _ _ _ c.self.invariant c.requires c.keep_front.ensures
 
-pub returns : goal.returns
-returns c = rw (← c.self.view_is) (kept_is_enough _ _ _ c.self.invariant c.requires c.keep_front.ensures)
+pub returns-clause-answered : goal.returns-clause-answered
+returns-clause-answered c = rw (← c.self.view_is) (kept_is_enough _ _ _ c.self.invariant c.requires c.keep_front.ensures)
+
+pub returns-clause-line : goal.returns-clause-line
+returns-clause-line c = kept_line _ _ _ c.self.invariant c.requires c.keep_front.ensures

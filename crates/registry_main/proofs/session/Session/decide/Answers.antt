@@ -1,5 +1,5 @@
 use Rattle.std.proofs.Common.{sym, subst}
-use Rattle.desk_lang.specs.ReplyText.{ReplyHasDate}
+use Rattle.desk_text.specs.ReplyText.{ReplyHasDate}
 use Rattle.registry_main.proofs.Shown.{decision_date}
 use Rattle.registry_main.proofs.session.Session.decide.Goals as goal
 

@@ -1,0 +1,31 @@
+-- How many pages a list has at most, where two neighbours have more than 64 items together.
+use Rattle.std.proofs.Common.{◌≡◌, ℕ, zero, suc, ◌+◌, ◌-◌, ◌*◌, ◌/◌, ◌<◌, ◌≤◌, List, [], ◌∷◌, ◌++◌, length, refl, ap, sym, ◌∙◌, inl, inr, arith, length-append}
+use Rattle.std.proofs.lemmas.Bool.{cases_lt}
+use Rattle.page_dir.specs.Directory.{pages_for}
+use Rattle.page_dir.specs.Pages.{HoldsEnough, joined, page_of}
+
+pairs_hold : {T : Type 0} (m : ℕ) (ps : List (List T)) → ((i : ℕ) → suc i < length ps → 64 < length (page_of ps i) + length (page_of ps (suc i)))
+    → 2 * m ≤ length ps → 65 * m ≤ length (joined ps)
+pairs_hold zero ps both h = omega arith
+pairs_hold (suc m) [] both h = absurd (omega arith)
+pairs_hold (suc m) (p ∷ []) both h = absurd (omega arith)
+pairs_hold (suc m) (p ∷ q ∷ ps) both h =
+    let rest = pairs_hold m ps (λ i lt. both (suc (suc i)) (omega arith)) (omega arith) in
+    let here = both 0 (omega arith) in
+    let len = length-append p (q ++ joined ps) in
+    let len' = length-append q (joined ps) in
+    omega (arith, rest, here, len, len')
+
+-- of the pages for a room, two are spare
+pub two_spare : {T : Type 0} (ps : List (List T)) (spare room : ℕ) → ((i : ℕ) → i < length ps → HoldsEnough ps i)
+    → length ps + spare ≡ pages_for room → length (joined ps) ≤ room → 2 ≤ spare
+two_spare ps spare room enough reserved within = elim (cases_lt spare 2) [
+  inl few ↦ (
+    let both = λ (i : ℕ) (lt : suc i < length ps). (
+      let h = (enough (suc i) lt).both (omega arith) in
+      let e : suc i - 1 ≡ i = omega arith in
+      let s : 64 < length (page_of ps i) + length (page_of ps (suc i)) = omega (arith, h, ap (λ k. length (page_of ps k)) e) in s) in
+    let hold = pairs_hold (room / 65 + 1) ps both (omega (arith, reserved)) in
+    absurd (omega (arith, hold, within))) |
+  inr more ↦ more
+]

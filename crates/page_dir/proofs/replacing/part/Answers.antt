@@ -1,0 +1,23 @@
+use Rattle.std.proofs.Common.{◌≡◌, ◌+◌, ◌-◌, ◌<◌, ◌∙◌, ◌++◌, length, arith, ap, sym, drop, take, []}
+use Rattle.std.proofs.lemmas.List.{take_rest}
+use Rattle.page_dir.specs.Pages.{page_of}
+use Rattle.page_dir.specs.Spread.{pages_in}
+use Rattle.page_dir.proofs.Enough.{place_inside, tidy-parted}
+use Rattle.page_dir.proofs.Joining.{parted_joined}
+use Rattle.page_dir.proofs.replacing.part.Goals as goal
+
+pub returns-clause-joined : goal.returns-clause-joined
+returns-clause-joined g c =
+    let page = c.page-page.result.now in
+    let there : c.args.i < length (pages_in c.args.spread.now) = place_inside _ _ _ c.requires.place c.if-at-eq0.false in
+    let len = ap length c.page-page.ensures.items in
+    let back = c.deref.ensures.value ∙ c.append.ensures.items ∙ ap (λ xs. xs ++ take (length page - c.args.at) (drop c.args.at page)) c.clear.ensures.items
+      ∙ take_rest page c.args.at ∙ ap (drop c.args.at) c.page-page.ensures.items in
+    parted_joined (pages_in c.args.spread.now) (pages_in c.splice.new.self) (pages_in c.add.new.self) c.args.i c.args.at (length page - c.args.at)
+    c.deref.result.now there (omega (arith, len, c.requires.place.within)) back c.splice.ensures.pages c.add.ensures.pages
+
+pub returns-clause-tidy : goal.returns-clause-tidy
+returns-clause-tidy g c =
+    let there : c.args.i < length (pages_in c.args.spread.now) = place_inside _ _ _ c.requires.place c.if-at-eq0.false in
+    tidy-parted (pages_in c.args.spread.now) (pages_in c.splice.new.self) (pages_in c.add.new.self) c.args.i _ c.deref.result.now there c.requires.enough
+    c.splice.ensures.pages c.add.ensures.pages

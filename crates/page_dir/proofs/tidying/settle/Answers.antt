@@ -1,0 +1,40 @@
+use Rattle.std.proofs.Common.{◌≡◌, ◌∙◌, ◌++◌, ◌-◌, ◌<◌, ap, arith, length, sym, subst, set}
+use Rattle.std.specs.List.{remove}
+use Rattle.page_dir.specs.Pages.{joined, page_of}
+use Rattle.page_dir.specs.Splices.{spliced}
+use Rattle.page_dir.specs.Spread.{AreTidy, pages_in}
+use Rattle.page_dir.proofs.Enough.{tidy-merged, tidy-removed}
+use Rattle.page_dir.proofs.Joining.{joined-merged, joined-remove_empty}
+use Rattle.page_dir.proofs.Splicing.{spliced_end}
+use Rattle.page_dir.proofs.tidying.settle.Goals as goal
+
+pub returns-then-here-eq0-clause-joined : goal.returns-then-here-eq0-clause-joined
+returns-then-here-eq0-clause-joined g c =
+    ap joined c.remove.ensures.pages
+    ∙ joined-remove_empty (pages_in c.args.spread.now) c.args.i c.requires.there (sym (ap length c.page-here.ensures.items) ∙ c.if-here-eq0.true)
+
+pub returns-then-here-eq0-clause-tidy : goal.returns-then-here-eq0-clause-tidy
+returns-then-here-eq0-clause-tidy g c = λ until high t.
+    rw c.remove.ensures.pages (tidy-removed (pages_in c.args.spread.now) c.args.i until c.args.i (omega arith) high c.requires.there t)
+
+pub returns-clause-joined : goal.returns-clause-joined
+returns-clause-joined g c =
+    let ps = pages_in c.args.spread.now in
+    let both = spliced (length c.page-before.result.now) 0 c.deref.result.now (page_of ps (c.args.i - 1)) in
+    let more : 0 < c.args.i = omega arith in
+    let is : both ≡ page_of ps (c.args.i - 1) ++ page_of ps c.args.i =
+      spliced_end c.deref.result.now (page_of ps (c.args.i - 1)) (length c.page-before.result.now) (ap length c.page-before.ensures.items)
+      ∙ ap (λ xs. page_of ps (c.args.i - 1) ++ xs)
+        (c.deref.ensures.value ∙ c.append.ensures.items ∙ ap (λ xs. xs ++ c.page.result.now) c.clear.ensures.items ∙ c.page.ensures.items) in
+    ap joined c.remove-2.ensures.pages ∙ ap (λ qs. joined (remove qs c.args.i)) c.splice.ensures.pages ∙ joined-merged ps c.args.i both more c.requires.there is
+
+pub returns-clause-tidy : goal.returns-clause-tidy
+returns-clause-tidy g c = λ until high t.
+    let ps = pages_in c.args.spread.now in
+    let both = spliced (length c.page-before.result.now) 0 c.deref.result.now (page_of ps (c.args.i - 1)) in
+    let more : 0 < c.args.i = omega arith in
+    let is : both ≡ page_of ps (c.args.i - 1) ++ page_of ps c.args.i =
+      spliced_end c.deref.result.now (page_of ps (c.args.i - 1)) (length c.page-before.result.now) (ap length c.page-before.ensures.items)
+      ∙ ap (λ xs. page_of ps (c.args.i - 1) ++ xs)
+        (c.deref.ensures.value ∙ c.append.ensures.items ∙ ap (λ xs. xs ++ c.page.result.now) c.clear.ensures.items ∙ c.page.ensures.items) in
+    rw (c.remove-2.ensures.pages, c.splice.ensures.pages) (tidy-merged ps c.args.i until both more c.requires.there high is t)

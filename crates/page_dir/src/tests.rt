@@ -1,0 +1,281 @@
+ghost use Rattle.std.specs.Prelude.{◌≡◌, ◌+◌, ◌≤◌, ◌<◌, true, length, drop, if◌then◌else◌};
+ghost use Rattle.std.specs.Bool.{OnTrue};
+ghost use Rattle.std.specs.List.{slice_get};
+ghost use Rattle.std.specs.Option.{IfSome};
+ghost use Rattle.std.specs.Ordering.{is_le};
+ghost use Rattle.page_dir.specs.Sorted.{MeetsBelow, Rises, last_at_most, rank};
+ghost use Rattle.page_dir.specs.Splices.{spliced};
+
+use super::*;
+use std::alloc::{AllocError, Global};
+use std::marker::{Brand, Model};
+use std::process::Abort;
+use std::sync::ledger::{Blank, Ledger};
+use std::test::Fail;
+
+/// A caller's struct, which is seen as the list of its pairs.
+#[derive(Drop)]
+struct Listed<K: Ord + Copy, V: Copy> {
+    dir: PageDir<K, V>,
+}
+
+impl<K: Ord + Copy, V: Copy> Model for Listed<K, V> {
+    ghost use Rattle.std.specs.Prelude.{List};
+
+    ghost Value = { List (K × V) };
+
+    ghost view = { λ l. l.dir.pairs };
+}
+
+impl<K: Ord + Copy, V: Copy> Listed<K, V> {
+    /// Splices where the pairs that go are there, the order stays strict and there is room, and says whether that is so.
+    fn splice(&mut self, from: &K, n: u32, new: &[(K, V)]) -> bool
+        ensures { self.new ≡ (if result then spliced (rank K.cmp from.now self.old) n new.now self.old else self.old) }
+    {
+        if !begins_from(new, from) || !rises(new) || !ends_below(&self.dir, from, n, new) {
+            return false;
+        }
+        let rest = (self.dir.len() - n) as usize;
+        if new.len() > self.dir.room() as usize - rest {
+            return false;
+        }
+        self.dir.replace_run(from, n, new);
+        true
+    }
+}
+
+fn begins_from<K: Ord, V>(pairs: &[(K, V)], from: &K) -> bool
+    ensures { OnTrue result (IfSome (slice_get pairs.now 0) (λ p. is_le (K.cmp from.now p.0) ≡ true)) }
+{
+    match pairs {
+        [] => true,
+        [first, ..] => from.cmp(&first.0).is_le(),
+    }
+}
+
+fn rises<K: Ord + Copy, V: Copy>(pairs: &[(K, V)]) -> bool
+    ensures { OnTrue result (Rises K.cmp pairs.now) }
+{
+    for i in 1..pairs.len() {
+        let (before, _) = pairs[i - 1];
+        let (here, _) = pairs[i];
+        if !before.cmp(&here).is_lt() {
+            return false;
+        }
+    }
+    true
+}
+
+fn ends_below<K: Ord + Copy, V: Copy>(dir: &PageDir<K, V>, from: &K, n: u32, new: &[(K, V)]) -> bool
+    ensures there { OnTrue result (rank K.cmp from.now dir.now.pairs + n ≤ length dir.now.pairs) }
+    ensures meets { OnTrue result (MeetsBelow K.cmp new.now (drop (rank K.cmp from.now dir.now.pairs + n) dir.now.pairs)) }
+{
+    let mut walk = dir.walk_from(from);
+    for _ in 0..n {
+        let Some(_) = walk.next() else {
+            return false;
+        };
+    }
+    let Some((next, _)) = walk.next() else {
+        return true;
+    };
+    match new {
+        [] => true,
+        [.., (last, _)] => last.cmp(&next).is_lt(),
+    }
+}
+
+/// Keys that stand for numbers, in their order.
+trait Key: Ord + Copy {
+    fn of(number: u64) -> Self;
+}
+
+impl Key for u128 {
+    fn of(number: u64) -> u128 {
+        u128::from(number)
+    }
+}
+
+impl Key for (u64, u8) {
+    fn of(number: u64) -> (u64, u8) {
+        (number / 256, (number % 256) as u8)
+    }
+}
+
+impl Key for [u8; 8] {
+    fn of(number: u64) -> [u8; 8] {
+        number.to_be_bytes()
+    }
+}
+
+/// Numbers that look random.
+#[derive(Drop)]
+struct Numbers {
+    state: u64,
+}
+
+impl Numbers {
+    fn below(&mut self, bound: u64) -> u64
+        requires { 0 < bound }
+        ensures { result < bound }
+    {
+        self.state ^= self.state << 13;
+        self.state ^= self.state >> 7;
+        self.state ^= self.state << 17;
+        self.state % bound
+    }
+}
+
+/// The same splice of a plain list, where the same holds of it.
+fn splice_plain(alloc: Global, plain: &mut Vec<(u64, u64)>, from: u64, n: u64, new: &[(u64, u64)], room: usize) -> Result<bool, AllocError> {
+    let at = plain.iter().filter(|p| p.0 < from).count();
+    let end = at.saturating_add(n as usize);
+    let tail = match plain.as_slice().get(end..) {
+        None => return Ok(false),
+        Some(rest) => rest.to_vec(alloc)?,
+    };
+    if let (Some(last), Some(next)) = (new.last(), tail.first()) {
+        if last.0 >= next.0 {
+            return Ok(false);
+        }
+    }
+    if tail.len().saturating_add(at).saturating_add(new.len()) > room {
+        return Ok(false);
+    }
+    plain.truncate(at);
+    plain.extend_from_slice(new)?;
+    plain.extend_from_slice(&tail)?;
+    Ok(true)
+}
+
+fn agrees<K: Key>(dir: &PageDir<K, u64>, plain: &[(u64, u64)]) -> bool {
+    let mut walk = dir.walk_from(&K::of(0));
+    for (number, value) in plain {
+        match walk.next() {
+            Some((key, v)) if key.cmp(&K::of(*number)).is_eq() && v == *value => {}
+            _ => return false,
+        }
+    }
+    walk.next().is_none() && dir.len() as usize == plain.len()
+}
+
+fn found<K: Ord + Copy, V: Copy, L: Ledger>(dir: &PageDir<K, V>, key: &K, blank: Blank) -> Option<(K, V)>
+    requires name { blank.name ≡ L.name }
+    requires parts { blank.parts ≡ L.parts }
+    requires some { 0 < blank.parts }
+{
+    let mut steps = Steps::<L>::new(blank);
+    dir.find(key, &mut steps)
+}
+
+/// What is found at a number, from above and from below.
+fn finds_alike<K: Key>(dir: &PageDir<K, u64>, plain: &[(u64, u64)], number: u64) -> bool {
+    let key = K::of(number);
+    let below = plain.iter().rev().find(|p| p.0 <= number).map(|p| p.1);
+    let above = plain.iter().find(|p| p.0 >= number).map(|p| p.1);
+    found::<K, u64, Brand>(dir, &key, Blank::new(1)).map(|p| p.1) == below && dir.from(&key).map(|p| p.1) == above
+}
+
+/// One splice of each list, mostly a short one.
+fn splice_both<K: Key>(alloc: Global, dir: &mut Listed<K, u64>, plain: &mut Vec<(u64, u64)>, numbers: &mut Numbers) -> Result<bool, AllocError> {
+    let from = numbers.below(1_000_000);
+    let most = if numbers.below(40) == 0 { 150 } else { 4 };
+    let n = numbers.below(most);
+    let come = numbers.below(most);
+    let mut new = Vec::new(alloc);
+    let mut keyed = Vec::new(alloc);
+    for i in 0..come {
+        let value = numbers.below(1_000);
+        new.push((from + i, value))?;
+        keyed.push((K::of(from + i), value))?;
+    }
+    let did = splice_plain(alloc, plain, from, n, &new, 3_000)?;
+    Ok(dir.splice(&K::of(from), n as u32, &keyed) == did)
+}
+
+fn drive<K: Key>(rt: &impl Abort, alloc: Global, splices: u32) -> Result<(), AllocError> {
+    let mut dir = Listed {
+        dir: PageDir::<K, u64>::with_room(alloc, 3_000)?,
+    };
+    let mut plain = Vec::new(alloc);
+    let mut numbers = Numbers {
+        state: 88_172_645_463_325_252,
+    };
+    for i in 0..splices {
+        assert!(rt; splice_both(alloc, &mut dir, &mut plain, &mut numbers)?);
+        if i % 100 == 99 {
+            assert!(rt; agrees(&dir.dir, &plain));
+            assert!(rt; finds_alike(&dir.dir, &plain, numbers.below(1_000_000)));
+        }
+    }
+    Ok(())
+}
+
+#[test]
+fn random_splices(rt: HostRuntime) -> Result<(), Fail> {
+    drive::<u128>(&rt, rt.alloc(), 20_000)?;
+    drive::<(u64, u8)>(&rt, rt.alloc(), 2_000)?;
+    drive::<[u8; 8]>(&rt, rt.alloc(), 2_000)?;
+    Ok(())
+}
+
+/// From which number on, how many pairs go, how many come with the numbers from there on, whether that may be, and how many
+/// pages and pairs there are then. Room for 200; a dash where more than one count of pages is right.
+const SPLICES: &str = "\
+1000 0 64 yes 1 64
+1064 0 1 yes 2 65
+1064 1 0 yes 1 64
+999 0 1 yes 2 65
+999 1 0 yes 1 64
+1000 65 0 no 1 64
+1010 0 1 no 1 64
+1010 0 0 yes 1 64
+1010 54 54 yes 1 64
+1000 64 0 yes 0 0
+1000 1 0 no 0 0
+1000 0 0 yes 0 0
+0 0 200 yes - 200
+500 0 1 no - 200
+100 1 1 yes - 200
+3 150 100 yes - 150
+5 1 52 no - 150
+0 150 65 yes 2 65
+0 1 0 yes 1 64
+0 65 0 no 1 64
+1 64 0 yes 0 0
+7 0 1 yes 1 1
+7 1 0 yes 0 0
+";
+
+/// One row of the splices: whether it went as it says.
+fn goes_as_told(alloc: Global, dir: &mut Listed<u128, u64>, row: &str) -> Result<bool, Fail> {
+    let mut words = row.split_whitespace();
+    let mut next = || words.next().ok_or("a word too few");
+    let from: u64 = next()?.parse()?;
+    let n: u32 = next()?.parse()?;
+    let come: u64 = next()?.parse()?;
+    let fits = next()? == "yes";
+    let pages = next()?;
+    let len: u32 = next()?.parse()?;
+    let mut new = Vec::new(alloc);
+    for i in 0..come {
+        new.push((u128::from(from) + u128::from(i), i))?;
+    }
+    let did = dir.splice(&u128::from(from), n, &new);
+    let right_pages = pages == "-" || pages.parse::<usize>()? == dir.dir.order().len();
+    Ok(did == fits && right_pages && dir.dir.len() == len)
+}
+
+#[test]
+fn splices_at_the_ends(rt: HostRuntime) -> Result<(), Fail> {
+    let mut dir = Listed {
+        dir: PageDir::with_room(rt.alloc(), 200)?,
+    };
+    for row in SPLICES.lines() {
+        assert!(rt; goes_as_told(rt.alloc(), &mut dir, row)?, "{row}");
+    }
+    assert_eq!(rt; dir.dir.room(), 200);
+    assert!(rt; dir.dir.is_empty());
+    assert_eq!(rt; dir.dir.pages().spare(), 0);
+    Ok(())
+}
