@@ -1,7 +1,5 @@
-pub mod FoundBlock
 pub mod Hundredths
 pub mod Named
 pub mod PieceSizes
 pub mod PolicyRows
 pub mod Refusals
-pub mod Rounding

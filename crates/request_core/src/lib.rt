@@ -2,7 +2,6 @@
 #![tactic(auto)]
 
 mod decision;
-mod least_block;
 mod policy_rules;
 mod proposal;
 #[cfg(test)]

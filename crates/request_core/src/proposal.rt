@@ -8,8 +8,8 @@ ghost use Rattle.reg_entry.specs.Decision.{entry_day, until_for, proposed_entry}
 ghost use Rattle.board.specs.Starts.{MayStartAt};
 ghost use Rattle.reg_entry.specs.Request.{IsSizedRequest};
 
-use crate::least_block::least_block;
 use board::Board;
+use fit_search::{amounts_are_sought, least_block};
 use policy_table::Policy;
 use reg_entry::{Entry, LAST_DATE, Name, Request, clamped_day};
 
@@ -45,11 +45,11 @@ fn chosen_start(board: &Board, request: &Request) -> Option<u128>
     ensures may { MayStartAt request.now result }
 {
     match request {
-        Request::Delegate { space, amount, .. } => least_block(
-            board.pieces().walk(*space),
-            *space,
-            space.amount_size(*amount),
-        ),
+        Request::Delegate { space, amount, .. } => {
+            amounts_are_sought();
+            let block = least_block(board.pieces(), *space, space.amount_size(*amount))?;
+            Some(block.first())
+        }
         _ => None,
     }
 }
