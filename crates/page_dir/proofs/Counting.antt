@@ -23,14 +23,14 @@ pairs_hold (suc m) (p ∷ q ∷ ps) both h =
 pub two_spare : {T : Type 0} (ps : List (List T)) (spare room : ℕ) → ((i : ℕ) → i < length ps → HoldsEnough ps i)
     → length ps + spare ≡ pages_for room → length (joined ps) ≤ room → 2 ≤ spare
 two_spare ps spare room enough reserved within = elim (cases_lt spare 2) [
-  inl few ↦ (
-    let both = λ (i : ℕ) (lt : suc i < length ps). (
+  | inl few ↦ (
+      let both = λ (i : ℕ) (lt : suc i < length ps). (
       let h = (enough (suc i) lt).both (omega arith) in
       let e : suc i - 1 ≡ i = omega arith in
       let s : 64 < length (page_of ps i) + length (page_of ps (suc i)) = omega (arith, h, ap (λ k. length (page_of ps k)) e) in s) in
-    let hold = pairs_hold (room / 65 + 1) ps both (omega (arith, reserved)) in
-    absurd (omega (arith, hold, within))) |
-  inr more ↦ more
+      let hold = pairs_hold (room / 65 + 1) ps both (omega (arith, reserved)) in
+      absurd (omega (arith, hold, within)))
+  | inr more ↦ more
 ]
 
 -- a directory without pairs

@@ -12,7 +12,7 @@ enough_like : {T : Type 0} (ps qs : List (List T)) (i k : ℕ) → HoldsEnough p
     → (0 < i → (0 < k) × (length (page_of ps (k - 1)) ≤ length (page_of qs (i - 1)))) → HoldsEnough qs i
 enough_like ps qs i k h here before = record {
   filled = omega (arith, h.filled);
-  both = λ more. let b = before more in omega (arith, h.both b.0, b.1)
+  both = λ more. let b = before more in omega (arith, h.both b.0, b.1);
 }
 
 same_length : {T : Type 0} (ps qs : List (List T)) (i k : ℕ) → page_of qs i ≡ page_of ps k → length (page_of ps k) ≤ length (page_of qs i)
@@ -24,7 +24,7 @@ tidy_from_enough ps first until h all = record { below = λ i lt. all i (omega a
 pub tidy_next : {T : Type 0} {ps : List (List T)} {i until : ℕ} → AreTidy ps i until → HoldsEnough ps i → AreTidy ps (i + 1) until
 tidy_next {T} {ps} {i} t h = record {
   below = λ k lt. elim (cases_eq k i) [ inl e ↦ subst (HoldsEnough ps) (sym e) h | inr ne ↦ t.below k (omega arith) ];
-  above = t.above
+  above = t.above;
 }
 
 pub tidy-removed : {T : Type 0} (ps : List (List T)) (first until r : ℕ) → first ≤ r → r < until → r < length ps → AreTidy ps first until → AreTidy (remove ps r) first until
@@ -32,20 +32,23 @@ tidy-removed ps first until r low high there t =
     let len = length-remove ps r there in
     record {
       below = λ i lt. enough_like ps (remove ps r) i i (t.below i lt)
-        (same_length ps (remove ps r) i i (get_or-remove_below ps r [] i (omega arith) there))
-        (λ more. (more, same_length ps (remove ps r) (i - 1) (i - 1) (get_or-remove_below ps r [] (i - 1) (omega arith) there)));
+          (same_length ps (remove ps r) i i (get_or-remove_below ps r [] i (omega arith) there))
+          (λ more. (more, same_length ps (remove ps r) (i - 1) (i - 1) (get_or-remove_below ps r [] (i - 1) (omega arith) there)));
       above = λ i le lt. enough_like ps (remove ps r) i (i + 1) (t.above (i + 1) (omega arith) (omega (arith, len)))
-        (same_length ps (remove ps r) i (i + 1) (get_or-remove_above ps r [] i (omega arith) there))
-        (λ more. (omega arith, same_length ps (remove ps r) (i - 1) (i + 1 - 1)
-          (get_or-remove_above ps r [] (i - 1) (omega arith) there ∙ ap (page_of ps) (let e : i - 1 + 1 ≡ i + 1 - 1 = omega arith in e))))
+          (same_length ps (remove ps r) i (i + 1) (get_or-remove_above ps r [] i (omega arith) there))
+          (λ more. (
+            omega arith,
+            same_length ps (remove ps r) (i - 1) (i + 1 - 1)
+                (get_or-remove_above ps r [] (i - 1) (omega arith) there ∙ ap (page_of ps) (let e : i - 1 + 1 ≡ i + 1 - 1 = omega arith in e)),
+          ));
     }
 
 grown : {T : Type 0} (ps : List (List T)) (r : ℕ) (page : List T) → r < length ps → length (page_of ps r) ≤ length page
     → (k : ℕ) → length (page_of ps k) ≤ length (page_of (set ps r page) k)
 grown ps r page there more k = elim (cases_eq k r) [
-  inl e ↦ subst (λ j. length (page_of ps j) ≤ length (page_of (set ps r page) j)) (sym e) (
-    let same = ap length (get_or-set_same ps r page [] there) in omega (arith, same)) |
-  inr ne ↦ same_length ps (set ps r page) k k (get_or-set_other ps r k page [] ne)
+  | inl e ↦ subst (λ j. length (page_of ps j) ≤ length (page_of (set ps r page) j)) (sym e) (
+      let same = ap length (get_or-set_same ps r page [] there) in omega (arith, same))
+  | inr ne ↦ same_length ps (set ps r page) k k (get_or-set_other ps r k page [] ne)
 ]
 
 -- a page that gets no smaller
@@ -56,7 +59,7 @@ tidy-grown ps first until r page there more t =
     let each = grown ps r page there more in
     record {
       below = λ i lt. enough_like ps (set ps r page) i i (t.below i lt) (each i) (λ h. (h, each (i - 1)));
-      above = λ i le lt. enough_like ps (set ps r page) i i (t.above i le (omega (arith, len))) (each i) (λ h. (h, each (i - 1)))
+      above = λ i le lt. enough_like ps (set ps r page) i i (t.above i le (omega (arith, len))) (each i) (λ h. (h, each (i - 1)));
     }
 
 -- any other page in a place that is not known to be tidy
@@ -66,11 +69,11 @@ tidy-set ps first until r page low high t =
     let len = length-set ps r page in
     record {
       below = λ i lt. enough_like ps (set ps r page) i i (t.below i lt)
-        (same_length ps (set ps r page) i i (get_or-set_other ps r i page [] (omega arith)))
-        (λ h. (h, same_length ps (set ps r page) (i - 1) (i - 1) (get_or-set_other ps r (i - 1) page [] (omega arith))));
+          (same_length ps (set ps r page) i i (get_or-set_other ps r i page [] (omega arith)))
+          (λ h. (h, same_length ps (set ps r page) (i - 1) (i - 1) (get_or-set_other ps r (i - 1) page [] (omega arith))));
       above = λ i le lt. enough_like ps (set ps r page) i i (t.above i le (omega (arith, len)))
-        (same_length ps (set ps r page) i i (get_or-set_other ps r i page [] (omega arith)))
-        (λ h. (h, same_length ps (set ps r page) (i - 1) (i - 1) (get_or-set_other ps r (i - 1) page [] (omega arith))))
+          (same_length ps (set ps r page) i i (get_or-set_other ps r i page [] (omega arith)))
+          (λ h. (h, same_length ps (set ps r page) (i - 1) (i - 1) (get_or-set_other ps r (i - 1) page [] (omega arith))));
     }
 
 inserted_above : {T : Type 0} (ps : List (List T)) (r : ℕ) (page : List T) (i : ℕ) → r ≤ length ps → r < i → page_of (insert ps r page) i ≡ page_of ps (i - 1)
@@ -83,11 +86,11 @@ tidy-inserted ps first until r page low high there t =
     let len = length-insert ps r page there in
     record {
       below = λ i lt. enough_like ps (insert ps r page) i i (t.below i lt)
-        (same_length ps (insert ps r page) i i (get_or-insert_below ps r page [] i (omega arith) there))
-        (λ h. (h, same_length ps (insert ps r page) (i - 1) (i - 1) (get_or-insert_below ps r page [] (i - 1) (omega arith) there)));
+          (same_length ps (insert ps r page) i i (get_or-insert_below ps r page [] i (omega arith) there))
+          (λ h. (h, same_length ps (insert ps r page) (i - 1) (i - 1) (get_or-insert_below ps r page [] (i - 1) (omega arith) there)));
       above = λ i le lt. enough_like ps (insert ps r page) i (i - 1) (t.above (i - 1) (omega arith) (omega (arith, len)))
-        (same_length ps (insert ps r page) i (i - 1) (inserted_above ps r page i there (omega arith)))
-        (λ h. (omega arith, same_length ps (insert ps r page) (i - 1) (i - 1 - 1) (inserted_above ps r page (i - 1) there (omega arith))))
+          (same_length ps (insert ps r page) i (i - 1) (inserted_above ps r page i there (omega arith)))
+          (λ h. (omega arith, same_length ps (insert ps r page) (i - 1) (i - 1 - 1) (inserted_above ps r page (i - 1) there (omega arith))));
     }
 
 -- a page that goes after the one before it got its items
@@ -110,13 +113,13 @@ tidy-parted ps mid after i front back h all mid_is after_is =
     let at : i ≡ i + 1 - 1 = omega arith in
     let to : i + 2 + 1 ≡ i + 1 + 2 = omega arith in
     rw (after_is, mid_is) (subst (λ k. AreTidy (insert (set ps i front) (i + 1) back) (i + 1 - 1) k) to
-      (subst (λ k. AreTidy (insert (set ps i front) (i + 1) back) k (i + 2 + 1)) at two))
+    (subst (λ k. AreTidy (insert (set ps i front) (i + 1) back) k (i + 2 + 1)) at two))
 
 -- a place that isn't the first of a page lies in a page
 pub place_inside : {T : Type 0} (ps : List (List T)) (i at : ℕ) → IsPlace ps i at → (at ≡ 0 → ⊥) → i < length ps
 place_inside {T} ps i at p more = elim (cases_lt i (length ps)) [
-  inl h ↦ h |
-  inr h ↦ (let none : length (page_of ps i) ≡ 0 = ap length (get_or_past ps i [] h) in absurd (more (omega (arith, none, p.within))))
+  | inl h ↦ h
+  | inr h ↦ (let none : length (page_of ps i) ≡ 0 = ap length (get_or_past ps i [] h) in absurd (more (omega (arith, none, p.within))))
 ]
 
 pub enough_grown : {T : Type 0} (ps after : List (List T)) (r : ℕ) (page : List T) → after ≡ set ps r page → r < length ps → length (page_of ps r) ≤ length page

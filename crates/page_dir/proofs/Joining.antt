@@ -102,8 +102,8 @@ joined-replaced before after i n new front rest =
 -- items are taken away from a page on: the page goes, or only some of its items do
 pub cut_inside : {T : Type 0} (ps : List (List T)) (i left : ℕ) → 0 < left → left ≤ length (joined (drop i ps)) → i < length ps
 cut_inside {T} ps i left more h = elim (cases_lt i (length ps)) [
-  inl lt ↦ lt |
-  inr ge ↦ (let none : length (joined (drop i ps)) ≡ 0 = ap (λ qs. length (joined qs)) (drop_all i ps ge) in absurd (omega arith))
+  | inl lt ↦ lt
+  | inr ge ↦ (let none : length (joined (drop i ps)) ≡ 0 = ap (λ qs. length (joined qs)) (drop_all i ps ge) in absurd (omega arith))
 ]
 
 pub take-remove : {T : Type 0} (ps : List (List T)) (i : ℕ) → i < length ps → take i (remove ps i) ≡ take i ps

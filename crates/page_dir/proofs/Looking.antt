@@ -25,8 +25,8 @@ item_before ts (suc i) = slice_get ts i
 none_passes : {T : Type 0} (test : T → Bool) (ts : List T) → ((i : ℕ) → PassesAt test ts i → ⊥) → last_by test ts ≡ None
 none_passes test [] h = refl
 none_passes test (t ∷ ts) h = elim (cases_Bool (test t)) [
-  inl e ↦ absurd (h 0 e) |
-  inr e ↦ ap (λ o. option_or o (cond (test t) (Some t) None)) (none_passes test ts (λ i. h (suc i))) ∙ ap (λ b. cond b (Some t) None) e
+  | inl e ↦ absurd (h 0 e)
+  | inr e ↦ ap (λ o. option_or o (cond (test t) (Some t) None)) (none_passes test ts (λ i. h (suc i))) ∙ ap (λ b. cond b (Some t) None) e
 ]
 
 some_first : {T : Type 0} (ts : List T) (t : T) (n : ℕ) → n < length ts → option_or (slice_get ts n) (Some t) ≡ slice_get ts n
@@ -44,14 +44,14 @@ last_of_more (x ∷ ts) t (suc (suc n)) h = some_first ts t n (omega arith)
 pub last_by-front : {T : Type 0} (test : T → Bool) (ts : List T) → IsDown test ts → last_by test ts ≡ item_before ts (prefix_len test ts)
 last_by-front test [] down = refl
 last_by-front test (t ∷ ts) down = elim (cases_Bool (test t)) [
-  inl e ↦
-    ap (λ o. option_or o (cond (test t) (Some t) None)) (last_by-front test ts (λ i j le h. down (suc i) (suc j) (omega arith) h))
-    ∙ ap (λ b. option_or (item_before ts (prefix_len test ts)) (cond b (Some t) None)) e
-    ∙ last_of_more ts t (prefix_len test ts) (prefix_len-le-length test ts)
-    ∙ ap (item_before (t ∷ ts)) (let s : suc (prefix_len test ts) ≡ 1 + prefix_len test ts = omega arith in s ∙ sym (ap (λ b. cond b (1 + prefix_len test ts) 0) e)) |
-  inr e ↦
-    none_passes test (t ∷ ts) (λ i h. (let first : true ≡ false = sym (down 0 i (omega arith) h) ∙ e in cc))
-    ∙ sym (ap (λ b. item_before (t ∷ ts) (cond b (1 + prefix_len test ts) 0)) e)
+  | inl e ↦
+      ap (λ o. option_or o (cond (test t) (Some t) None)) (last_by-front test ts (λ i j le h. down (suc i) (suc j) (omega arith) h))
+      ∙ ap (λ b. option_or (item_before ts (prefix_len test ts)) (cond b (Some t) None)) e
+      ∙ last_of_more ts t (prefix_len test ts) (prefix_len-le-length test ts)
+      ∙ ap (item_before (t ∷ ts)) (let s : suc (prefix_len test ts) ≡ 1 + prefix_len test ts = omega arith in s ∙ sym (ap (λ b. cond b (1 + prefix_len test ts) 0) e))
+  | inr e ↦
+      none_passes test (t ∷ ts) (λ i h. (let first : true ≡ false = sym (down 0 i (omega arith) h) ∙ e in cc))
+      ∙ sym (ap (λ b. item_before (t ∷ ts) (cond b (1 + prefix_len test ts) 0)) e)
 ]
 
 option_or-none : {T : Type 0} (o : Option T) → option_or o None ≡ o
@@ -88,17 +88,17 @@ slice_get-drop_first ts i = slice_get-drop i ts 0 ∙ ap (slice_get ts) (let e :
 
 passed : {T : Type 0} (test : T → Bool) (rest : Option T) (x t : T) (o : Option T) → o ≡ rest → (rest ≡ Some t → test t ≡ true) → option_or o (cond (test x) (Some x) None) ≡ Some t → test t ≡ true
 passed test rest x t None e more h = elim (cases_Bool (test x)) [
-  inl yes' ↦ (let same : x ≡ t = same_Some x t (sym (ap (λ b. cond b (Some x) None) yes') ∙ h) in ap test (sym same) ∙ yes') |
-  inr no' ↦ absurd (none-some t (sym (ap (λ b. cond b (Some x) None) no') ∙ h))
+  | inl yes' ↦ (let same : x ≡ t = same_Some x t (sym (ap (λ b. cond b (Some x) None) yes') ∙ h) in ap test (sym same) ∙ yes')
+  | inr no' ↦ absurd (none-some t (sym (ap (λ b. cond b (Some x) None) no') ∙ h))
 ]
 passed test rest x t (Some y) e more h = more (sym e ∙ h)
 
 stops_there : {T : Type 0} (test : T → Bool) (ts : List T) → IfSome (slice_get ts (prefix_len test ts)) (λ t. test t ≡ false)
 stops_there test [] = tt
 stops_there test (t ∷ ts) = elim (cases_Bool (test t)) [
-  inl yes' ↦ subst (λ k. IfSome (slice_get (t ∷ ts) k) (λ x. test x ≡ false))
-    (let s : suc (prefix_len test ts) ≡ 1 + prefix_len test ts = omega arith in s ∙ sym (ap (λ b. cond b (1 + prefix_len test ts) 0) yes')) (stops_there test ts) |
-  inr no' ↦ subst (λ k. IfSome (slice_get (t ∷ ts) k) (λ x. test x ≡ false)) (sym (ap (λ b. cond b (1 + prefix_len test ts) 0) no')) no'
+  | inl yes' ↦ subst (λ k. IfSome (slice_get (t ∷ ts) k) (λ x. test x ≡ false))
+      (let s : suc (prefix_len test ts) ≡ 1 + prefix_len test ts = omega arith in s ∙ sym (ap (λ b. cond b (1 + prefix_len test ts) 0) yes')) (stops_there test ts)
+  | inr no' ↦ subst (λ k. IfSome (slice_get (t ∷ ts) k) (λ x. test x ≡ false)) (sym (ap (λ b. cond b (1 + prefix_len test ts) 0) no')) no'
 ]
 
 some_passes : {T : Type 0} (test : T → Bool) (ts : List T) (t : T) → last_by test ts ≡ Some t → test t ≡ true
@@ -149,10 +149,10 @@ module _ {K V : Type 0} (cmp : K → K → Ordering) where
     last_at_most-before key at n new ps rises rises' was is =
         let test = λ (p : K × V). is_le (cmp p.0 key) in
         let here : last_by test (new ++ drop (at + n) ps) ≡ None =
-          none_from_first test (new ++ drop (at + n) ps) (down_from_rises o UpTo key (new ++ drop (at + n) ps) (rises_right cmp (take at ps) (new ++ drop (at + n) ps) rises')) is in
+        none_from_first test (new ++ drop (at + n) ps) (down_from_rises o UpTo key (new ++ drop (at + n) ps) (rises_right cmp (take at ps) (new ++ drop (at + n) ps) rises')) is in
         let there : last_by test (drop at ps) ≡ None =
-          none_from_first test (drop at ps) (down_from_rises o UpTo key (drop at ps) (rises_right cmp (take at ps) (drop at ps) (subst (Rises cmp) (sym (take-append-drop at ps)) rises)))
-            (subst (λ s. IfSome s (λ p. test p ≡ false)) (sym (slice_get-drop_first ps at)) was) in
+        none_from_first test (drop at ps) (down_from_rises o UpTo key (drop at ps) (rises_right cmp (take at ps) (drop at ps) (subst (Rises cmp) (sym (take-append-drop at ps)) rises)))
+        (subst (λ s. IfSome s (λ p. test p ≡ false)) (sym (slice_get-drop_first ps at)) was) in
         last_by-append test (take at ps) (new ++ drop (at + n) ps)
         ∙ ap (λ s. option_or s (last_by test (take at ps))) (here ∙ sym there)
         ∙ sym (last_by-append test (take at ps) (drop at ps))
@@ -163,10 +163,11 @@ module _ {K V : Type 0} (cmp : K → K → Ordering) where
     found_before key ps p zero rises count e = cc
     found_before key ps p (suc m) rises count e =
         let test = λ (q : K × V). is_le (cmp q.0 key) in
-        let place = rank_at cmp o ps m p rises e in
-        (ap (slice_get ps) place ∙ e,
-         subst (λ k. IfSome (slice_get ps k) (λ q. test q ≡ false)) (let s : suc m ≡ rank cmp p.0 ps + 1 = omega (arith, place) in s)
-           (subst (λ k. IfSome (slice_get ps k) (λ q. test q ≡ false)) count (stops_there test ps)))
+        let place = rank_at cmp o ps m p rises e in (
+          ap (slice_get ps) place ∙ e,
+          subst (λ k. IfSome (slice_get ps k) (λ q. test q ≡ false)) (let s : suc m ≡ rank cmp p.0 ps + 1 = omega (arith, place) in s)
+              (subst (λ k. IfSome (slice_get ps k) (λ q. test q ≡ false)) count (stops_there test ps)),
+        )
 
     -- the pair that is found stands at the rank of its key, and the next key is greater than the one that was looked for
     pub found_place : (key : K) (ps : List (K × V)) (p : K × V) → Rises cmp ps → last_at_most cmp key ps ≡ Some p
@@ -179,6 +180,6 @@ module _ {K V : Type 0} (cmp : K → K → Ordering) where
 pub none_found : {K V : Type 0} (cmp : K → K → Ordering) (key : K) (ps : List (K × V)) → last_at_most cmp key ps ≡ None → IfSome (slice_get ps 0) (λ p. is_le (cmp p.0 key) ≡ false)
 none_found cmp key [] e = tt
 none_found cmp key (p ∷ ps) e = elim (cases_Bool (is_le (cmp p.0 key))) [
-  inl yes' ↦ (let no' = sym (first_hides (λ q. is_le (cmp q.0 key)) (p ∷ ps) (Some p) yes') ∙ ap (λ s. option_or s (Some p)) e in absurd (none-some p (sym e ∙ no'))) |
-  inr no' ↦ no'
+  | inl yes' ↦ (let no' = sym (first_hides (λ q. is_le (cmp q.0 key)) (p ∷ ps) (Some p) yes') ∙ ap (λ s. option_or s (Some p)) e in absurd (none-some p (sym e ∙ no')))
+  | inr no' ↦ no'
 ]

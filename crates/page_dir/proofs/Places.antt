@@ -57,8 +57,8 @@ module _ {T : Type 0} (test : T → Bool) (ps : List (List T)) (filled : (i : �
   -- no page begins before the place
   pub place_at_front : IsTurn (λ i. PassesAt test (page_of ps i) 0) (λ i. FailsAt test (page_of ps i) 0) (length ps) 0 → 0 ≡ prefix_len test (joined ps)
   place_at_front turn = sym (prefix_by_turn test (joined ps) 0 (omega arith) (λ i h. absurd (omega arith)) (λ more. elim (cases_lt 0 (length ps)) [
-    inl h ↦ fails_joined 0 0 h (filled 0 h) (turn.after h) |
-    inr none ↦ (let e : length (joined ps) ≡ 0 = ap (λ qs. length (joined qs)) (nil_from_length ps (omega arith)) in absurd (omega arith))
+    | inl h ↦ fails_joined 0 0 h (filled 0 h) (turn.after h)
+    | inr none ↦ (let e : length (joined ps) ≡ 0 = ap (λ qs. length (joined qs)) (nil_from_length ps (omega arith)) in absurd (omega arith))
   ]))
 
   not_both : (ts : List T) → PassesAt test ts 0 → FailsAt test ts 0 → ⊥
@@ -68,9 +68,9 @@ module _ {T : Type 0} (test : T → Bool) (ps : List (List T)) (filled : (i : �
   pub place_is_inside : (page at : ℕ) → page < length ps → PassesAt test (page_of ps page) 0
       → IsTurn (PassesAt test (page_of ps page)) (FailsAt test (page_of ps page)) (length (page_of ps page)) at → 0 < at
   place_is_inside page at h first turn = elim (cases_lt 0 at) [
-    inl lt ↦ lt |
-    inr le ↦ (let zero_at : at ≡ 0 = omega arith in let f = filled page h in
-      absurd (not_both (page_of ps page) first (subst (FailsAt test (page_of ps page)) zero_at (turn.after (omega arith)))))
+    | inl lt ↦ lt
+    | inr le ↦ (let zero_at : at ≡ 0 = omega arith in let f = filled page h in
+        absurd (not_both (page_of ps page) first (subst (FailsAt test (page_of ps page)) zero_at (turn.after (omega arith)))))
   ]
 
   -- the place lies in the last page that begins before it
@@ -85,15 +85,15 @@ module _ {T : Type 0} (test : T → Bool) (ps : List (List T)) (filled : (i : �
       let end = start_next ps page h in
       let last = passes_joined page (at - 1) h (omega (arith, turn.within)) (turn.before more) in
       sym (prefix_by_turn test (joined ps) (start ps page + at) (omega (arith, whole, sum, end, turn.within))
-        (λ i lt. down i (start ps page + (at - 1)) (omega arith) last)
-        (λ lt. elim (cases_lt at (length (page_of ps page))) [
-          inl inside ↦ fails_joined page at h inside (turn.after inside) |
-          inr over ↦ elim (cases_lt (page + 1) (length ps)) [
-            inl there ↦ (let e : start ps (page + 1) + 0 ≡ start ps page + at = omega (arith, end, turn.within) in
-              subst (FailsAt test (joined ps)) e (fails_joined (page + 1) 0 there (filled (page + 1) there) (next there))) |
-            inr over' ↦ (let e : length (joined (drop (page + 1) ps)) ≡ 0 = ap (λ qs. length (joined qs)) (drop_all (page + 1) ps over') in absurd (omega (arith, whole, sum, end, turn.within, e)))
-          ]
-        ]))
+      (λ i lt. down i (start ps page + (at - 1)) (omega arith) last)
+      (λ lt. elim (cases_lt at (length (page_of ps page))) [
+        | inl inside ↦ fails_joined page at h inside (turn.after inside)
+        | inr over ↦ elim (cases_lt (page + 1) (length ps)) [
+          | inl there ↦ (let e : start ps (page + 1) + 0 ≡ start ps page + at = omega (arith, end, turn.within) in
+              subst (FailsAt test (joined ps)) e (fails_joined (page + 1) 0 there (filled (page + 1) there) (next there)))
+          | inr over' ↦ (let e : length (joined (drop (page + 1) ps)) ≡ 0 = ap (λ qs. length (joined qs)) (drop_all (page + 1) ps over') in absurd (omega (arith, whole, sum, end, turn.within, e)))
+        ]
+      ]))
 
 -- what stands before a place among rising keys is a front
 pub less_from : (r : Ordering) → is_lt r ≡ true → r ≡ Less

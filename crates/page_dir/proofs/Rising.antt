@@ -107,7 +107,7 @@ module _ {K V : Type 0} (cmp : K → K → Ordering) (o : IsTotalOrder cmp) wher
       let len = length-take-le r ps within in
       let there = slice_get_within (take r ps) (length (take r ps) - 1) p last in
       let same : get_or ps (r - 1) p ≡ p =
-        sym (get_or-take r ps (r - 1) p (omega arith)) ∙ ap (λ k. get_or (take r ps) (k - 1) p) (sym len) ∙ get_or_from_slice_get (take r ps) (length (take r ps) - 1) p p last in
+      sym (get_or-take r ps (r - 1) p (omega arith)) ∙ ap (λ k. get_or (take r ps) (k - 1) p) (sym len) ∙ get_or_from_slice_get (take r ps) (length (take r ps) - 1) p p last in
       let passes = prefix_len_passes (λ x. is_lt (cmp x.0 from)) ps (r - 1) p (omega arith) in
       let lt : cmp p.0 from ≡ Less = less_from (cmp p.0 from) (ap (λ x. is_lt (cmp x.0 from)) (sym same) ∙ passes) in
       less_than_both cmp o p.0 from q.0 (cmp from q.0) lt refl (subst (λ s. IfSome s (λ x. is_le (cmp from x.0) ≡ true)) first least)
@@ -167,10 +167,10 @@ module _ {K V : Type 0} (cmp : K → K → Ordering) (ps new : List (K × V)) (a
       let rest = drop (at + n) ps in
       let q = get_or new done d in
       let whole : Rises cmp ((front ++ q ∷ []) ++ (drop (done + 1) new ++ rest)) =
-        subst (Rises cmp) (in_parts ps new at n done ∙ ap (λ xs. front ++ (xs ++ rest)) (drop_more new done d h')
-          ∙ sym (append_assoc front (q ∷ []) (drop (done + 1) new ++ rest))) rises in
+      subst (Rises cmp) (in_parts ps new at n done ∙ ap (λ xs. front ++ (xs ++ rest)) (drop_more new done d h')
+      ∙ sym (append_assoc front (q ∷ []) (drop (done + 1) new ++ rest))) rises in
       let less : Rises cmp (front ++ q ∷ rest) =
-        subst (Rises cmp) (append_assoc front (q ∷ []) rest) (rises_without cmp (front ++ q ∷ []) (drop (done + 1) new) rest whole) in
+      subst (Rises cmp) (append_assoc front (q ∷ []) rest) (rises_without cmp (front ++ q ∷ []) (drop (done + 1) new) rest whole) in
       ap (rank cmp q.0) (front_part ps new at n done)
       ∙ rank_between cmp o front q rest less
       ∙ length_front ps new at n done h (omega arith)

@@ -46,7 +46,7 @@ no_spread {T} cells waiting n a b c vacant none h = rw (vacant, none) (record {
   within = λ k. subst (λ (o : Option (List T)). length (or_empty o) ≤ 64) (sym (none_held {T = List T} n k)) (omega arith);
   order_room = omega arith;
   waiting_room = omega arith;
-  tail_room = h
+  tail_room = h;
 })
 
 pub spread_begun : {T : Type 0} {pool : List (Option (List T))} {waiting : List ℕ} {a b c : ℕ} (slot a' b' : ℕ) → IsSpread pool [] waiting a b c
@@ -56,21 +56,21 @@ spread_begun {T} {pool} {waiting} slot a' b' s vacant more more' =
     let len = length_push waiting slot in
     record {
       each = λ k. elim (cases_eq k slot) [
-        inl e ↦ subst (λ j. times j [] + times j (waiting ++ slot ∷ []) ≡ presence (held (set pool slot (Some [])) j)) (sym e) (
-          let one = times_push_same waiting slot in
-          let there : presence (held (set pool slot (Some [])) slot) ≡ 1 = ap presence (held_same pool slot (Some []) within) in
-          let none : presence (held pool slot) ≡ 0 = ap (λ cell. presence (option_and_then (λ c. c) cell)) vacant in
-          omega (arith, one, there, none, s.each slot)) |
-        inr ne ↦ (let same = times_push_other waiting slot k ne in let e : presence (held (set pool slot (Some [])) k) ≡ presence (held pool k) = ap presence (held_other pool slot k (Some []) ne) in omega (arith, same, e, s.each k))
+        | inl e ↦ subst (λ j. times j [] + times j (waiting ++ slot ∷ []) ≡ presence (held (set pool slot (Some [])) j)) (sym e) (
+            let one = times_push_same waiting slot in
+            let there : presence (held (set pool slot (Some [])) slot) ≡ 1 = ap presence (held_same pool slot (Some []) within) in
+            let none : presence (held pool slot) ≡ 0 = ap (λ cell. presence (option_and_then (λ c. c) cell)) vacant in
+            omega (arith, one, there, none, s.each slot))
+        | inr ne ↦ (let same = times_push_other waiting slot k ne in let e : presence (held (set pool slot (Some [])) k) ≡ presence (held pool k) = ap presence (held_other pool slot k (Some []) ne) in omega (arith, same, e, s.each k))
       ];
       within = λ k. elim (cases_eq k slot) [
-        inl e ↦ subst (λ j. length (or_empty (held (set pool slot (Some [])) j)) ≤ 64) (sym e)
-          (subst (λ (o : Option (List T)). length (or_empty o) ≤ 64) (sym (held_same pool slot (Some []) within)) (omega arith)) |
-        inr ne ↦ subst (λ (o : Option (List T)). length (or_empty o) ≤ 64) (sym (held_other pool slot k (Some []) ne)) (s.within k)
+        | inl e ↦ subst (λ j. length (or_empty (held (set pool slot (Some [])) j)) ≤ 64) (sym e)
+            (subst (λ (o : Option (List T)). length (or_empty o) ≤ 64) (sym (held_same pool slot (Some []) within)) (omega arith))
+        | inr ne ↦ subst (λ (o : Option (List T)). length (or_empty o) ≤ 64) (sym (held_other pool slot k (Some []) ne)) (s.within k)
       ];
       order_room = omega (arith, len);
       waiting_room = omega (arith, len);
-      tail_room = s.tail_room
+      tail_room = s.tail_room;
     }
 
 pub slots_differ : {T : Type 0} {pool : List (Option (List T))} {order waiting : List ℕ} {a b c : ℕ} → IsSpread pool order waiting a b c → AreDistinct order
@@ -79,8 +79,8 @@ slots_differ {T} {pool} s slot = let one = presence-le-one (held pool slot) in o
 pub pages_within : {T : Type 0} {pool : List (Option (List T))} {order waiting : List ℕ} {a b c : ℕ} → IsSpread pool order waiting a b c
     → (i : ℕ) → length (page_of (pages_at pool order) i) ≤ 64
 pages_within {T} {pool} {order} s i = elim (cases_lt i (length order)) [
-  inl h ↦ subst (λ page. length page ≤ 64) (sym (get_or-map (λ slot. or_empty (held pool slot)) order i 0 [] h)) (s.within (get_or order i 0)) |
-  inr h ↦ subst (λ (page : List T). length page ≤ 64) (sym (get_or_past (pages_at pool order) i [] (omega (arith, length-map order (λ slot. or_empty (held pool slot)))))) (omega arith)
+  | inl h ↦ subst (λ page. length page ≤ 64) (sym (get_or-map (λ slot. or_empty (held pool slot)) order i 0 [] h)) (s.within (get_or order i 0))
+  | inr h ↦ subst (λ (page : List T). length page ≤ 64) (sym (get_or_past (pages_at pool order) i [] (omega (arith, length-map order (λ slot. or_empty (held pool slot)))))) (omega arith)
 ]
 
 pub map-insert : {X Y : Type 0} (f : X → Y) (xs : List X) (i : ℕ) (x : X) → map f (insert xs i x) ≡ insert (map f xs) i (f x)
@@ -105,15 +105,15 @@ module _ {T : Type 0} (pool : List (Option (List T))) (slot : ℕ) (old new : Li
 
   same_presence : (k : ℕ) → presence (held (set pool slot (Some new)) k) ≡ presence (held pool k)
   same_presence k = elim (cases_eq k slot) [
-    inl e ↦ subst (λ j. presence (held (set pool slot (Some new)) j) ≡ presence (held pool j)) (sym e)
-      (ap presence (held_same pool slot (Some new) (slot_within pool slot old live)) ∙ sym (ap presence live)) |
-    inr ne ↦ ap presence (held_other pool slot k (Some new) ne)
+    | inl e ↦ subst (λ j. presence (held (set pool slot (Some new)) j) ≡ presence (held pool j)) (sym e)
+        (ap presence (held_same pool slot (Some new) (slot_within pool slot old live)) ∙ sym (ap presence live))
+    | inr ne ↦ ap presence (held_other pool slot k (Some new) ne)
   ]
 
   small_after : length new ≤ 64 → ((k : ℕ) → length (or_empty (held pool k)) ≤ 64) → (k : ℕ) → length (or_empty (held (set pool slot (Some new)) k)) ≤ 64
   small_after few each k = elim (cases_eq k slot) [
-    inl e ↦ subst (λ j. length (or_empty (held (set pool slot (Some new)) j)) ≤ 64) (sym e) (subst (λ page. length page ≤ 64) (sym page_there) few) |
-    inr ne ↦ subst (λ page. length page ≤ 64) (sym (pages_elsewhere k ne)) (each k)
+    | inl e ↦ subst (λ j. length (or_empty (held (set pool slot (Some new)) j)) ≤ 64) (sym e) (subst (λ page. length page ≤ 64) (sym page_there) few)
+    | inr ne ↦ subst (λ page. length page ≤ 64) (sym (pages_elsewhere k ne)) (each k)
   ]
 
   pub spread_written : {order waiting : List ℕ} {a b c c' : ℕ} → IsSpread pool order waiting a b c → length new ≤ 64 → 64 ≤ c'
@@ -123,7 +123,7 @@ module _ {T : Type 0} (pool : List (Option (List T))) (slot : ℕ) (old new : Li
     within = small_after few s.within;
     order_room = s.order_room;
     waiting_room = s.waiting_room;
-    tail_room = more
+    tail_room = more;
   }
 
   pub pages_written : {order waiting : List ℕ} {a b c : ℕ} (i d : ℕ) → IsSpread pool order waiting a b c → i < length order → get_or order i d ≡ slot
@@ -140,27 +140,27 @@ module _ {T : Type 0} (pool : List (Option (List T))) (slot : ℕ) (old new : Li
       let longer = length-insert order i slot h in
       record {
         each = λ k. (
-          let ins = times-insert k slot order i in
-          let split : times k all ≡ times k waiting + once k slot = ap (times k) is ∙ (elim (cases_eq k slot) [
-            inl e ↦ subst (λ j. times j (waiting ++ slot ∷ []) ≡ times j waiting + once j slot) (sym e)
-              (times_push_same waiting slot ∙ sym (ap (λ n. times slot waiting + n) (once_same slot slot refl))) |
-            inr ne ↦ times_push_other waiting slot k ne ∙ (let zero_more = once_other k slot ne in omega (arith, zero_more))
-          ]) in
-          let same = same_presence k in
-          omega (arith, ins, split, same, s.each k));
+            let ins = times-insert k slot order i in
+            let split : times k all ≡ times k waiting + once k slot = ap (times k) is ∙ (elim (cases_eq k slot) [
+              | inl e ↦ subst (λ j. times j (waiting ++ slot ∷ []) ≡ times j waiting + once j slot) (sym e)
+                  (times_push_same waiting slot ∙ sym (ap (λ n. times slot waiting + n) (once_same slot slot refl)))
+              | inr ne ↦ times_push_other waiting slot k ne ∙ (let zero_more = once_other k slot ne in omega (arith, zero_more))
+            ]) in
+            let same = same_presence k in
+            omega (arith, ins, split, same, s.each k));
         within = small_after few s.within;
         order_room = omega (arith, longer, len, s.order_room);
         waiting_room = omega (arith, longer, len, s.waiting_room);
-        tail_room = s.tail_room
+        tail_room = s.tail_room;
       }
 
   pub pages_added : {order all : List ℕ} {a b c : ℕ} (waiting : List ℕ) (i : ℕ) → all ≡ waiting ++ slot ∷ [] → IsSpread pool order all a b c
       → pages_at (set pool slot (Some new)) (insert order i slot) ≡ insert (pages_at pool order) i new
   pages_added {order} {all} waiting i is s =
       let absent : times slot order ≡ 0 = (
-        let there : times slot all ≡ times slot waiting + 1 = ap (times slot) is ∙ times_push_same waiting slot in
-        let one = presence-le-one (held pool slot) in
-        omega (arith, there, one, s.each slot)) in
+      let there : times slot all ≡ times slot waiting + 1 = ap (times slot) is ∙ times_push_same waiting slot in
+      let one = presence-le-one (held pool slot) in
+      omega (arith, there, one, s.each slot)) in
       let f : ℕ → List T = λ k. or_empty (held (set pool slot (Some new)) k) in
       map-insert f order i slot
       ∙ ap (λ pages. insert pages i (f slot)) (map_absent f (λ k. or_empty (held pool k)) slot pages_elsewhere order absent)

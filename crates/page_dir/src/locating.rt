@@ -31,7 +31,12 @@ fn stands_before<K: Ord, L: Ledger>(key: &K, limit: &K, side: Side, steps: &mut 
 }
 
 /// How many pages begin before the place.
-fn pages_before<K: Ord + Copy, V: Copy, L: Ledger>(spread: &Spread<(K, V)>, key: &K, side: Side, steps: &mut Steps<L>) -> usize
+fn pages_before<K: Ord + Copy, V: Copy, L: Ledger>(
+    spread: &Spread<(K, V)>,
+    key: &K,
+    side: Side,
+    steps: &mut Steps<L>,
+) -> usize
     requires { (i : ℕ) → i < length (pages_in spread.now) → 0 < length (page_of (pages_in spread.now) i) }
     ensures turn { IsTurn
         (λ i. PassesAt (λ p. stands_before K.cmp side key.now p.0) (page_of (pages_in spread.now) i) 0)
@@ -54,7 +59,12 @@ fn pages_before<K: Ord + Copy, V: Copy, L: Ledger>(spread: &Spread<(K, V)>, key:
 }
 
 /// How many pairs of a page stand before the place.
-fn pairs_before<K: Ord + Copy, V: Copy, L: Ledger>(page: &[(K, V)], key: &K, side: Side, steps: &mut Steps<L>) -> usize
+fn pairs_before<K: Ord + Copy, V: Copy, L: Ledger>(
+    page: &[(K, V)],
+    key: &K,
+    side: Side,
+    steps: &mut Steps<L>,
+) -> usize
     requires { length page.now ≤ 64 }
     ensures turn { IsTurn
         (PassesAt (λ p. stands_before K.cmp side key.now p.0) page.now)
@@ -77,7 +87,12 @@ fn pairs_before<K: Ord + Copy, V: Copy, L: Ledger>(page: &[(K, V)], key: &K, sid
 }
 
 /// The page and the place in it behind all pairs that stand before.
-pub(crate) fn locate<K: Ord + Copy, V: Copy, L: Ledger>(spread: &Spread<(K, V)>, key: &K, side: Side, steps: &mut Steps<L>) -> (usize, usize)
+pub(crate) fn locate<K: Ord + Copy, V: Copy, L: Ledger>(
+    spread: &Spread<(K, V)>,
+    key: &K,
+    side: Side,
+    steps: &mut Steps<L>,
+) -> (usize, usize)
     requires enough { (i : ℕ) → i < length (pages_in spread.now) → HoldsEnough (pages_in spread.now) i }
     requires rises { Rises K.cmp (joined (pages_in spread.now)) }
     ensures place { IsPlace (pages_in spread.now) result.0 result.1 }
@@ -96,7 +111,11 @@ pub(crate) fn locate<K: Ord + Copy, V: Copy, L: Ledger>(spread: &Spread<(K, V)>,
 }
 
 /// The place of the first key that is at least this one; nobody counts the comparisons.
-pub(crate) fn place_of<K: Ord + Copy, V: Copy, L: Ledger>(spread: &Spread<(K, V)>, key: &K, blank: Blank) -> (usize, usize)
+pub(crate) fn place_of<K: Ord + Copy, V: Copy, L: Ledger>(
+    spread: &Spread<(K, V)>,
+    key: &K,
+    blank: Blank,
+) -> (usize, usize)
     requires name { blank.name ≡ L.name }
     requires parts { blank.parts ≡ L.parts }
     requires some { 0 < blank.parts }
@@ -136,7 +155,11 @@ pub(crate) fn first_from<K: Ord + Copy, V: Copy>(spread: &Spread<(K, V)>, key: &
 }
 
 /// The place where a run of so many pairs begins: at the end of a page only where there is nothing in the run.
-pub(crate) fn run_from<K: Ord + Copy, V: Copy>(spread: &Spread<(K, V)>, key: &K, n: u32) -> (usize, usize)
+pub(crate) fn run_from<K: Ord + Copy, V: Copy>(
+    spread: &Spread<(K, V)>,
+    key: &K,
+    n: u32,
+) -> (usize, usize)
     requires enough { (i : ℕ) → i < length (pages_in spread.now) → HoldsEnough (pages_in spread.now) i }
     requires rises { Rises K.cmp (joined (pages_in spread.now)) }
     ensures place { IsPlace (pages_in spread.now) result.0 result.1 }

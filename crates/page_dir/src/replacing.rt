@@ -10,7 +10,14 @@ use crate::tidying::tidy;
 
 /// So many items from a place on go, and the new ones come there. Where the run lies in one page and fits, only what is
 /// behind it in that page moves.
-pub(crate) fn replace<T: Copy>(spread: &mut Spread<T>, carry: &mut Vec<T>, i: usize, at: usize, n: usize, new: &[T])
+pub(crate) fn replace<T: Copy>(
+    spread: &mut Spread<T>,
+    carry: &mut Vec<T>,
+    i: usize,
+    at: usize,
+    n: usize,
+    new: &[T],
+)
     requires place { IsPlace (pages_in spread.old) i at }
     requires there { start (pages_in spread.old) i + at + n ≤ length (joined (pages_in spread.old)) }
     requires enough { (k : ℕ) → k < length (pages_in spread.old) → HoldsEnough (pages_in spread.old) k }

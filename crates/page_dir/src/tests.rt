@@ -127,7 +127,14 @@ impl Numbers {
 }
 
 /// The same splice of a plain list, where the same holds of it.
-fn splice_plain(alloc: Global, plain: &mut Vec<(u64, u64)>, from: u64, n: u64, new: &[(u64, u64)], room: usize) -> Result<bool, AllocError> {
+fn splice_plain(
+    alloc: Global,
+    plain: &mut Vec<(u64, u64)>,
+    from: u64,
+    n: u64,
+    new: &[(u64, u64)],
+    room: usize,
+) -> Result<bool, AllocError> {
     let at = plain.iter().filter(|p| p.0 < from).count();
     let end = at.saturating_add(n as usize);
     let tail = match plain.as_slice().get(end..) {
@@ -159,7 +166,11 @@ fn agrees<K: Key>(dir: &PageDir<K, u64>, plain: &[(u64, u64)]) -> bool {
     walk.next().is_none() && dir.len() as usize == plain.len()
 }
 
-fn found<K: Ord + Copy, V: Copy, L: Ledger>(dir: &PageDir<K, V>, key: &K, blank: Blank) -> Option<(K, V)>
+fn found<K: Ord + Copy, V: Copy, L: Ledger>(
+    dir: &PageDir<K, V>,
+    key: &K,
+    blank: Blank,
+) -> Option<(K, V)>
     requires name { blank.name ≡ L.name }
     requires parts { blank.parts ≡ L.parts }
     requires some { 0 < blank.parts }
@@ -173,11 +184,17 @@ fn finds_alike<K: Key>(dir: &PageDir<K, u64>, plain: &[(u64, u64)], number: u64)
     let key = K::of(number);
     let below = plain.iter().rev().find(|p| p.0 <= number).map(|p| p.1);
     let above = plain.iter().find(|p| p.0 >= number).map(|p| p.1);
-    found::<K, u64, Brand>(dir, &key, Blank::new(1)).map(|p| p.1) == below && dir.from(&key).map(|p| p.1) == above
+    found::<K, u64, Brand>(dir, &key, Blank::new(1)).map(|p| p.1) == below
+        && dir.from(&key).map(|p| p.1) == above
 }
 
 /// One splice of each list, mostly a short one.
-fn splice_both<K: Key>(alloc: Global, dir: &mut Listed<K, u64>, plain: &mut Vec<(u64, u64)>, numbers: &mut Numbers) -> Result<bool, AllocError> {
+fn splice_both<K: Key>(
+    alloc: Global,
+    dir: &mut Listed<K, u64>,
+    plain: &mut Vec<(u64, u64)>,
+    numbers: &mut Numbers,
+) -> Result<bool, AllocError> {
     let from = numbers.below(1_000_000);
     let most = if numbers.below(40) == 0 { 150 } else { 4 };
     let n = numbers.below(most);
@@ -277,5 +294,51 @@ fn splices_at_the_ends(rt: HostRuntime) -> Result<(), Fail> {
     assert_eq!(rt; dir.dir.room(), 200);
     assert!(rt; dir.dir.is_empty());
     assert_eq!(rt; dir.dir.pages().spare(), 0);
+    Ok(())
+}
+
+/// A number that is seen as itself, as the types of the layers above are.
+#[derive(Clone, Copy, PartialEq, Eq, Debug)]
+struct Mark {
+    code: u8,
+}
+
+impl Model for Mark {
+    ghost use Rattle.std.specs.Prelude.{ℕ};
+
+    ghost Value = { ℕ };
+
+    ghost view = { λ m. m.code };
+
+    ghost inverse = { λ n. record { code = n } };
+}
+
+#[derive(Clone, Copy, PartialEq, Eq, Debug)]
+struct Part {
+    last: u128,
+    mark: Mark,
+}
+
+#[test]
+fn holds_structs(rt: HostRuntime) -> Result<(), Fail> {
+    let mut dir = Listed {
+        dir: PageDir::<u128, Part>::with_room(rt.alloc(), 70)?,
+    };
+    for number in 0..70u64 {
+        let first = u128::from(number);
+        let part = Part {
+            last: first + 5,
+            mark: Mark { code: 7 },
+        };
+        assert!(rt; dir.splice(&first, 0, &[(first, part)]));
+    }
+    assert!(rt; dir.splice(&10, 59, &[]));
+    let last = Part {
+        last: 74,
+        mark: Mark { code: 7 },
+    };
+    assert_eq!(rt; dir.dir.from(&10), Some((69, last)));
+    assert_eq!(rt; dir.dir.walk_from(&10).next(), Some((69, last)));
+    assert_eq!(rt; dir.dir.order().len(), 1);
     Ok(())
 }

@@ -11,7 +11,7 @@ returns-then-pages-eq0-clause-before g c =
     let ps = pages_in c.args.spread.now in
     place_at_front (λ p. stands_before g.K.Ord.cmp c.args.side c.args.key.now p.0) ps (λ i h. (c.requires.enough i h).filled)
     (subst (λ k. IsTurn (λ i. PassesAt (λ p. stands_before g.K.Ord.cmp c.args.side c.args.key.now p.0) (page_of ps i) 0) (λ i. FailsAt (λ p. stands_before g.K.Ord.cmp c.args.side c.args.key.now p.0) (page_of ps i) 0) (length ps) k)
-      c.if-pages-eq0.true c.pages_before-pages.ensures.turn)
+    c.if-pages-eq0.true c.pages_before-pages.ensures.turn)
 
 pub returns-then-pages-eq0-clause-cost : goal.returns-then-pages-eq0-clause-cost
 returns-then-pages-eq0-clause-cost g c =
@@ -43,5 +43,5 @@ returns-clause-front g c = λ none.
     let pages = c.pages_before-pages.result in
     let turn = c.pages_before-pages.ensures.turn in
     let more = place_is_inside (λ p. stands_before g.K.Ord.cmp c.args.side c.args.key.now p.0) ps (λ i h. (c.requires.enough i h).filled) (pages - 1) c.pairs_before-at.result (omega (arith, turn.within)) (turn.before (omega arith))
-      (subst (λ page. IsTurn (PassesAt (λ p. stands_before g.K.Ord.cmp c.args.side c.args.key.now p.0) page) (FailsAt (λ p. stands_before g.K.Ord.cmp c.args.side c.args.key.now p.0) page) (length page) c.pairs_before-at.result) c.page.ensures.items c.pairs_before-at.ensures.turn) in
+    (subst (λ page. IsTurn (PassesAt (λ p. stands_before g.K.Ord.cmp c.args.side c.args.key.now p.0) page) (FailsAt (λ p. stands_before g.K.Ord.cmp c.args.side c.args.key.now p.0) page) (length page) c.pairs_before-at.result) c.page.ensures.items c.pairs_before-at.ensures.turn) in
     absurd (omega (arith, more, none))

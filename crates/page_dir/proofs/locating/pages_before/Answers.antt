@@ -15,13 +15,13 @@ loop-low-preserved-then-stands_before g c =
     let page = page_of ps middle in
     record {
       below = λ _. subst (λ i. PassesAt (λ p. stands_before g.K.Ord.cmp c.args.side c.args.key.now p.0) (page_of ps i) 0) (let e : middle ≡ middle + 1 - 1 = omega arith in e)
-        (told_at (λ p. stands_before g.K.Ord.cmp c.args.side c.args.key.now p.0) page 0 c.first-first.result true c.first-first.ensures (sym c.if-stands_before.ensures.before));
+          (told_at (λ p. stands_before g.K.Ord.cmp c.args.side c.args.key.now p.0) page 0 c.first-first.result true c.first-first.ensures (sym c.if-stands_before.ensures.before));
       above = kept.above;
       order = omega arith;
       within = kept.within;
       counted = omega (arith, kept.counted, c.stands_before.ensures.counted);
       halved = halved_after c.args.steps.now c.loop-low.steps c.stands_before.new.steps (high - low) (high - (middle + 1)) (length (pages_in c.args.spread.now))
-        kept.counted c.stands_before.ensures.counted kept.halved (omega arith) (omega arith)
+          kept.counted c.stands_before.ensures.counted kept.halved (omega arith) (omega arith);
     }
 
 pub loop-low-preserved : goal.loop-low-preserved
@@ -39,5 +39,5 @@ loop-low-preserved g c =
       within = omega (arith, kept.within);
       counted = omega (arith, kept.counted, c.stands_before.ensures.counted);
       halved = halved_after c.args.steps.now c.loop-low.steps c.stands_before.new.steps (high - low) (middle - low) (length (pages_in c.args.spread.now))
-        kept.counted c.stands_before.ensures.counted kept.halved (omega arith) (omega arith)
+          kept.counted c.stands_before.ensures.counted kept.halved (omega arith) (omega arith);
     }

@@ -11,7 +11,7 @@ invariant-loop-low g l = record {
   order : l.low ≤ l.high;
   within : l.high ≤ length (pages_in l.spread);
   counted : l.initial.steps ≤ l.steps;
-  halved : IsHalved (2 ^ (l.steps - l.initial.steps)) (l.high - l.low) (length (pages_in l.spread))
+  halved : IsHalved (2 ^ (l.steps - l.initial.steps)) (l.high - l.low) (length (pages_in l.spread));
 }
 
 abbrev pub decreases-loop-low : goal.decreases-loop-low

@@ -12,13 +12,13 @@ loop-low-preserved-then-stands_before g c =
     let page = c.args.page.now in
     record {
       below = λ _. subst (PassesAt (λ p. stands_before g.K.Ord.cmp c.args.side c.args.key.now p.0) page) (let e : middle ≡ middle + 1 - 1 = omega arith in e)
-        (read_at (λ p. stands_before g.K.Ord.cmp c.args.side c.args.key.now p.0) page middle c.index-page-middle.result true (omega arith) (sym c.if-stands_before.ensures.before));
+          (read_at (λ p. stands_before g.K.Ord.cmp c.args.side c.args.key.now p.0) page middle c.index-page-middle.result true (omega arith) (sym c.if-stands_before.ensures.before));
       above = kept.above;
       order = omega arith;
       within = kept.within;
       counted = omega (arith, kept.counted, c.stands_before.ensures.counted);
       halved = halved_after c.args.steps.now c.loop-low.steps c.stands_before.new.steps (high - low) (high - (middle + 1)) (length page)
-        kept.counted c.stands_before.ensures.counted kept.halved (omega arith) (omega arith)
+          kept.counted c.stands_before.ensures.counted kept.halved (omega arith) (omega arith);
     }
 
 pub loop-low-preserved : goal.loop-low-preserved
@@ -35,5 +35,5 @@ loop-low-preserved g c =
       within = omega (arith, kept.within);
       counted = omega (arith, kept.counted, c.stands_before.ensures.counted);
       halved = halved_after c.args.steps.now c.loop-low.steps c.stands_before.new.steps (high - low) (middle - low) (length page)
-        kept.counted c.stands_before.ensures.counted kept.halved (omega arith) (omega arith)
+          kept.counted c.stands_before.ensures.counted kept.halved (omega arith) (omega arith);
     }

@@ -9,7 +9,7 @@ invariant-loop-low g l = record {
   order : l.low ≤ l.high;
   within : l.high ≤ length l.page;
   counted : l.initial.steps ≤ l.steps;
-  halved : IsHalved (2 ^ (l.steps - l.initial.steps)) (l.high - l.low) (length l.page)
+  halved : IsHalved (2 ^ (l.steps - l.initial.steps)) (l.high - l.low) (length l.page);
 }
 
 abbrev pub decreases-loop-low : goal.decreases-loop-low

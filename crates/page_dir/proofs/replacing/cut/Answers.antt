@@ -31,11 +31,11 @@ loop-left-preserved-then-here-left g c =
       there = omega (arith, fewer, is);
       front = ap (take c.args.i) c.remove.ensures.pages ∙ take-remove ps c.args.i there ∙ kept.front;
       rest = ap (λ qs. drop (c.loop-left.left - length c.page-here.result.now) (joined (drop c.args.i qs))) c.remove.ensures.pages
-        ∙ cut_removed ps c.args.i c.loop-left.left (length c.page-here.result.now) there here c.if-here-left.true ∙ kept.rest;
+          ∙ cut_removed ps c.args.i c.loop-left.left (length c.page-here.result.now) there here c.if-here-left.true ∙ kept.rest;
       enough = let joined_is = ap (λ qs. length (joined (drop c.args.i qs))) c.remove.ensures.pages in omega (arith, less, joined_is, kept.enough);
       count = omega (arith, kept.count, fewer, is, c.remove.ensures.spare);
       spare = omega (arith, kept.spare, c.remove.ensures.spare);
-      tidy = rw c.remove.ensures.pages (tidy-removed ps (c.args.i - 1) (c.args.i + 2) c.args.i (omega arith) (omega arith) there kept.tidy)
+      tidy = rw c.remove.ensures.pages (tidy-removed ps (c.args.i - 1) (c.args.i + 2) c.args.i (omega arith) (omega arith) there kept.tidy);
     }
 
 pub loop-left-preserved : goal.loop-left-preserved
@@ -53,5 +53,5 @@ loop-left-preserved g c =
       enough = omega arith;
       count = omega (arith, kept.count, is, c.splice.ensures.spare);
       spare = omega (arith, kept.spare, c.splice.ensures.spare);
-      tidy = rw c.splice.ensures.pages (tidy-set ps (c.args.i - 1) (c.args.i + 2) c.args.i page (omega arith) (omega arith) kept.tidy)
+      tidy = rw c.splice.ensures.pages (tidy-set ps (c.args.i - 1) (c.args.i + 2) c.args.i page (omega arith) (omega arith) kept.tidy);
     }

@@ -11,7 +11,7 @@ invariant-loop-left g l = record {
   enough : l.left ≤ length (joined (drop l.i (pages_in l.spread)));
   count : length (pages_in l.spread) + l.spread.spare ≡ length (pages_in l.initial.spread) + l.initial.spread.spare;
   spare : l.initial.spread.spare ≤ l.spread.spare;
-  tidy : AreTidy (pages_in l.spread) (l.i - 1) (l.i + 2)
+  tidy : AreTidy (pages_in l.spread) (l.i - 1) (l.i + 2);
 }
 
 abbrev pub decreases-loop-left : goal.decreases-loop-left

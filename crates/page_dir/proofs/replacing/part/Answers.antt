@@ -12,7 +12,7 @@ returns-clause-joined g c =
     let there : c.args.i < length (pages_in c.args.spread.now) = place_inside _ _ _ c.requires.place c.if-at-eq0.false in
     let len = ap length c.page-page.ensures.items in
     let back = c.deref.ensures.value ∙ c.append.ensures.items ∙ ap (λ xs. xs ++ take (length page - c.args.at) (drop c.args.at page)) c.clear.ensures.items
-      ∙ take_rest page c.args.at ∙ ap (drop c.args.at) c.page-page.ensures.items in
+    ∙ take_rest page c.args.at ∙ ap (drop c.args.at) c.page-page.ensures.items in
     parted_joined (pages_in c.args.spread.now) (pages_in c.splice.new.self) (pages_in c.add.new.self) c.args.i c.args.at (length page - c.args.at)
     c.deref.result.now there (omega (arith, len, c.requires.place.within)) back c.splice.ensures.pages c.add.ensures.pages
 

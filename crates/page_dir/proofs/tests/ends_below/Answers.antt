@@ -27,6 +27,6 @@ returns-in-len1-up-clause-meets g c =
     let r = rank g.K.Ord.cmp c.args.from.now ps in
     let whole : c.args.n ≡ c.loop.counter = omega arith in
     OnTrue_from c.is_lt.result (MeetsBelow g.K.Ord.cmp c.args.new.now (drop (r + c.args.n) ps)) (λ less.
-      meets_next g.K.Ord.cmp c.args.new.now (drop (r + c.args.n) ps) c.next-2.new.self _ c.index-new-new.result
-      (ap (λ k. drop (r + k) ps) whole ∙ sym c.loop.invariant.rest ∙ c.in-Some-next.ensures.steps)
-      (sym c.cmp.ensures ∙ less_from c.cmp.result (sym c.is_lt.ensures ∙ less)))
+    meets_next g.K.Ord.cmp c.args.new.now (drop (r + c.args.n) ps) c.next-2.new.self _ c.index-new-new.result
+    (ap (λ k. drop (r + k) ps) whole ∙ sym c.loop.invariant.rest ∙ c.in-Some-next.ensures.steps)
+    (sym c.cmp.ensures ∙ less_from c.cmp.result (sym c.is_lt.ensures ∙ less)))

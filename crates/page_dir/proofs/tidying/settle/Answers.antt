@@ -23,9 +23,9 @@ returns-clause-joined g c =
     let both = spliced (length c.page-before.result.now) 0 c.deref.result.now (page_of ps (c.args.i - 1)) in
     let more : 0 < c.args.i = omega arith in
     let is : both ≡ page_of ps (c.args.i - 1) ++ page_of ps c.args.i =
-      spliced_end c.deref.result.now (page_of ps (c.args.i - 1)) (length c.page-before.result.now) (ap length c.page-before.ensures.items)
-      ∙ ap (λ xs. page_of ps (c.args.i - 1) ++ xs)
-        (c.deref.ensures.value ∙ c.append.ensures.items ∙ ap (λ xs. xs ++ c.page.result.now) c.clear.ensures.items ∙ c.page.ensures.items) in
+    spliced_end c.deref.result.now (page_of ps (c.args.i - 1)) (length c.page-before.result.now) (ap length c.page-before.ensures.items)
+    ∙ ap (λ xs. page_of ps (c.args.i - 1) ++ xs)
+    (c.deref.ensures.value ∙ c.append.ensures.items ∙ ap (λ xs. xs ++ c.page.result.now) c.clear.ensures.items ∙ c.page.ensures.items) in
     ap joined c.remove-2.ensures.pages ∙ ap (λ qs. joined (remove qs c.args.i)) c.splice.ensures.pages ∙ joined-merged ps c.args.i both more c.requires.there is
 
 pub returns-clause-tidy : goal.returns-clause-tidy
@@ -34,7 +34,7 @@ returns-clause-tidy g c = λ until high t.
     let both = spliced (length c.page-before.result.now) 0 c.deref.result.now (page_of ps (c.args.i - 1)) in
     let more : 0 < c.args.i = omega arith in
     let is : both ≡ page_of ps (c.args.i - 1) ++ page_of ps c.args.i =
-      spliced_end c.deref.result.now (page_of ps (c.args.i - 1)) (length c.page-before.result.now) (ap length c.page-before.ensures.items)
-      ∙ ap (λ xs. page_of ps (c.args.i - 1) ++ xs)
-        (c.deref.ensures.value ∙ c.append.ensures.items ∙ ap (λ xs. xs ++ c.page.result.now) c.clear.ensures.items ∙ c.page.ensures.items) in
+    spliced_end c.deref.result.now (page_of ps (c.args.i - 1)) (length c.page-before.result.now) (ap length c.page-before.ensures.items)
+    ∙ ap (λ xs. page_of ps (c.args.i - 1) ++ xs)
+    (c.deref.ensures.value ∙ c.append.ensures.items ∙ ap (λ xs. xs ++ c.page.result.now) c.clear.ensures.items ∙ c.page.ensures.items) in
     rw (c.remove-2.ensures.pages, c.splice.ensures.pages) (tidy-merged ps c.args.i until both more c.requires.there high is t)

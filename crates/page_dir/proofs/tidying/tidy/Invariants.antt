@@ -8,7 +8,7 @@ invariant-loop-i g l = record {
   joined : joined (pages_in l.spread) ≡ joined (pages_in l.initial.spread);
   count : length (pages_in l.spread) + l.spread.spare ≡ length (pages_in l.initial.spread) + l.initial.spread.spare;
   tidy : AreTidy (pages_in l.spread) l.i l.until;
-  carry : 64 ≤ vec_capacity l.carry
+  carry : 64 ≤ vec_capacity l.carry;
 }
 
 abbrev pub decreases-loop-i : goal.decreases-loop-i

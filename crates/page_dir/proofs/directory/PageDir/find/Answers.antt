@@ -17,12 +17,12 @@ returns-then-at-eq0-clause-found g c =
     let test = λ (p : g.row.K.Denot × g.row.V.Denot). stands_before g.K.Ord.cmp UpTo c.args.key.now p.0 in
     let ps = pages_in c.self.inside.spread in
     let none : prefix_len test (joined ps) ≡ 0 = (
-      let zero_page = c.locate-page.ensures.front c.if-at-eq0.true in
-      let e : start ps c.locate-page.result.0 ≡ 0 = ap (start ps) zero_page in
-      omega (arith, c.locate-page.ensures.before, e, c.if-at-eq0.true)) in
+    let zero_page = c.locate-page.ensures.front c.if-at-eq0.true in
+    let e : start ps c.locate-page.result.0 ≡ 0 = ap (start ps) zero_page in
+    omega (arith, c.locate-page.ensures.before, e, c.if-at-eq0.true)) in
     sym (ap (λ (d : PlainDir g.row.K.Denot g.row.V.Denot). last_at_most g.K.Ord.cmp c.args.key.now d.pairs) (sym c.self.view_is)
-      ∙ last_by-front test (joined ps) (down_from_rises g.met.K.Ord.total UpTo c.args.key.now (joined ps) c.self.invariant.rises)
-      ∙ ap (item_before (joined ps)) none)
+    ∙ last_by-front test (joined ps) (down_from_rises g.met.K.Ord.total UpTo c.args.key.now (joined ps) c.self.invariant.rises)
+    ∙ ap (item_before (joined ps)) none)
 
 pub returns-clause-found : goal.returns-clause-found
 returns-clause-found g c =
@@ -34,9 +34,9 @@ returns-clause-found g c =
     let within : at - 1 < length (page_of ps page) = omega (arith, c.locate-page.ensures.place.within) in
     let more : prefix_len test (joined ps) ≡ suc (start ps page + (at - 1)) = omega (arith, c.locate-page.ensures.before) in
     sym (ap (λ (d : PlainDir g.row.K.Denot g.row.V.Denot). last_at_most g.K.Ord.cmp c.args.key.now d.pairs) (sym c.self.view_is)
-      ∙ last_by-front test (joined ps) (down_from_rises g.met.K.Ord.total UpTo c.args.key.now (joined ps) c.self.invariant.rises)
-      ∙ ap (item_before (joined ps)) more
-      ∙ joined_at ps page (at - 1) there within
-      ∙ slice_get-get_or (page_of ps page) (at - 1) c.index-page-at.result within
-      ∙ ap (λ xs. Some (get_or xs (at - 1) c.index-page-at.result)) (sym c.page.ensures.items)
-      ∙ ap (λ p. Some p) (sym c.index-page-at.is))
+    ∙ last_by-front test (joined ps) (down_from_rises g.met.K.Ord.total UpTo c.args.key.now (joined ps) c.self.invariant.rises)
+    ∙ ap (item_before (joined ps)) more
+    ∙ joined_at ps page (at - 1) there within
+    ∙ slice_get-get_or (page_of ps page) (at - 1) c.index-page-at.result within
+    ∙ ap (λ xs. Some (get_or xs (at - 1) c.index-page-at.result)) (sym c.page.ensures.items)
+    ∙ ap (λ p. Some p) (sym c.index-page-at.is))

@@ -16,8 +16,8 @@ returns g c =
     let there : page < length ps = omega (arith, c.first_from-page.ensures.place.there, c.len.ensures, c.if-page-len.false) in
     let within : at < length (page_of ps page) = c.first_from-page.ensures.place.inside there in
     sym (ap (λ (d : PlainDir g.row.K.Denot g.row.V.Denot). slice_get d.pairs (rank g.K.Ord.cmp c.args.key.now d.pairs)) (sym c.self.view_is)
-      ∙ ap (slice_get (joined ps)) (sym c.first_from-page.ensures.before)
-      ∙ joined_at ps page at there within
-      ∙ slice_get-get_or (page_of ps page) at c.index-page-at.result within
-      ∙ ap (λ xs. Some (get_or xs at c.index-page-at.result)) (sym c.page.ensures.items)
-      ∙ ap (λ p. Some p) (sym c.index-page-at.is))
+    ∙ ap (slice_get (joined ps)) (sym c.first_from-page.ensures.before)
+    ∙ joined_at ps page at there within
+    ∙ slice_get-get_or (page_of ps page) at c.index-page-at.result within
+    ∙ ap (λ xs. Some (get_or xs at c.index-page-at.result)) (sym c.page.ensures.items)
+    ∙ ap (λ p. Some p) (sym c.index-page-at.is))

@@ -21,13 +21,13 @@ invariant_of-self g c =
     let new = c.args.new.now in
     let at = rank g.K.Ord.cmp c.args.from.now ps in
     let is : joined (pages_in c.replace.new.spread) ≡ spliced at c.args.n new ps =
-      c.replace.ensures.joined ∙ ap (λ k. spliced k c.args.n new ps) c.run_from-page.ensures.before in
+    c.replace.ensures.joined ∙ ap (λ k. spliced k c.args.n new ps) c.run_from-page.ensures.before in
     let there : at + c.args.n ≤ length ps =
-      subst (λ (d : D). rank g.K.Ord.cmp c.args.from.now d.pairs + c.args.n ≤ length d.pairs) (sym c.self.view_is) c.requires.there in
+    subst (λ (d : D). rank g.K.Ord.cmp c.args.from.now d.pairs + c.args.n ≤ length d.pairs) (sym c.self.view_is) c.requires.there in
     let rises : Rises g.K.Ord.cmp (spliced at c.args.n new ps) =
-      subst (λ (d : D). Rises g.K.Ord.cmp (spliced (rank g.K.Ord.cmp c.args.from.now d.pairs) c.args.n new d.pairs)) (sym c.self.view_is) c.requires.rises in
+    subst (λ (d : D). Rises g.K.Ord.cmp (spliced (rank g.K.Ord.cmp c.args.from.now d.pairs) c.args.n new d.pairs)) (sym c.self.view_is) c.requires.rises in
     let room : length (spliced at c.args.n new ps) ≤ c.self.inside.room =
-      subst (λ (d : D). length (spliced (rank g.K.Ord.cmp c.args.from.now d.pairs) c.args.n new d.pairs) ≤ d.room) (sym c.self.view_is) c.requires.room in
+    subst (λ (d : D). length (spliced (rank g.K.Ord.cmp c.args.from.now d.pairs) c.args.n new d.pairs) ≤ d.room) (sym c.self.view_is) c.requires.room in
     let len = length-spliced at c.args.n new ps there in
     let same = ap length is in
     record {
@@ -37,5 +37,5 @@ invariant_of-self g c =
       within = omega (arith, len, room, kept.count, there);
       most = kept.most;
       reserved = omega (arith, c.replace.ensures.count, kept.reserved);
-      carry = c.replace.ensures.carry
+      carry = c.replace.ensures.carry;
     }

@@ -35,10 +35,10 @@ replace_few-requires-in-loop-done-clause-rises g c =
     let more : done + c.min-more.result - done ≡ c.min-more.result = omega arith in
     let all = part_rises g.K.Ord.cmp ps new at c.args.n c.requires.rises (done + c.min-more.result) in
     subst (Rises g.K.Ord.cmp) (sym (
-      ap (λ k. spliced k 0 (take (done + c.min-more.result - done) (drop done new)) c.loop-done.self.pairs) place
-      ∙ ap (λ k. spliced (at + done) 0 (take k (drop done new)) c.loop-done.self.pairs) more
-      ∙ ap (spliced (at + done) 0 (take c.min-more.result (drop done new))) is
-      ∙ next_part ps new at c.args.n done c.min-more.result (omega arith) (omega arith))) all
+    ap (λ k. spliced k 0 (take (done + c.min-more.result - done) (drop done new)) c.loop-done.self.pairs) place
+    ∙ ap (λ k. spliced (at + done) 0 (take k (drop done new)) c.loop-done.self.pairs) more
+    ∙ ap (spliced (at + done) 0 (take c.min-more.result (drop done new))) is
+    ∙ next_part ps new at c.args.n done c.min-more.result (omega arith) (omega arith))) all
 
 pub loop-done-preserved : goal.loop-done-preserved
 loop-done-preserved g c =
@@ -52,10 +52,10 @@ loop-done-preserved g c =
     let more : done + c.min-more.result - done ≡ c.min-more.result = omega arith in
     record {
       pairs = c.replace_few-in-loop-done.ensures.pairs
-        ∙ ap (λ k. spliced k 0 (take (done + c.min-more.result - done) (drop done new)) c.loop-done.self.pairs) place
-        ∙ ap (λ k. spliced (at + done) 0 (take k (drop done new)) c.loop-done.self.pairs) more
-        ∙ ap (spliced (at + done) 0 (take c.min-more.result (drop done new))) is
-        ∙ next_part ps new at c.args.n done c.min-more.result (omega arith) (omega arith);
+          ∙ ap (λ k. spliced k 0 (take (done + c.min-more.result - done) (drop done new)) c.loop-done.self.pairs) place
+          ∙ ap (λ k. spliced (at + done) 0 (take k (drop done new)) c.loop-done.self.pairs) more
+          ∙ ap (spliced (at + done) 0 (take c.min-more.result (drop done new))) is
+          ∙ next_part ps new at c.args.n done c.min-more.result (omega arith) (omega arith);
       room = c.replace_few-in-loop-done.ensures.room ∙ c.loop-done.invariant.room;
-      within = omega arith
+      within = omega arith;
     }

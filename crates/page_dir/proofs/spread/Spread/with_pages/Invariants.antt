@@ -8,5 +8,5 @@ invariant-loop g l = record {
   spread : IsSpread l.pool [] l.waiting.items l.count (vec_capacity l.waiting) 64;
   count : length l.waiting.items ≡ l.counter;
   left : spare l.pool + l.counter ≡ l.count;
-  reserved : l.count ≤ vec_capacity l.waiting
+  reserved : l.count ≤ vec_capacity l.waiting;
 }
