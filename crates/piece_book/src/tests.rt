@@ -1,12 +1,15 @@
-ghost use Rattle.std.specs.Prelude.{◌≡◌, IsTrue, find};
+ghost use Rattle.std.specs.Prelude.{◌≡◌, ◌^◌, ◌<◌, IsTrue, find};
 ghost use Rattle.reg_entry.specs.Card.{is_available};
 ghost use Rattle.reg_entry.specs.Partition.{pieces_in};
 ghost use Rattle.reg_entry.specs.Pieces.{IsCard, IsPoolRange};
+
+mod numbers;
 
 use crate::{PieceBook, Touched};
 use num_range::{Number, Range, Space};
 use reg_entry::{Card, Piece, Status};
 use std::alloc::{AllocError, Global};
+use numbers::Numbers;
 use std::test::Fail;
 
 const GLOBAL_UNICAST: u128 = 0x2000_0000_0000_0000_0000_0000_0000_0000; // RFC 4291 2.4
@@ -252,5 +255,86 @@ fn a_piece_is_parted_and_made_one_again(rt: HostRuntime) -> Result<(), Fail> {
     assert_eq!(rt; joined.before.as_slice(), halves.as_slice());
     assert_eq!(rt; joined.after.as_slice(), whole.as_slice());
     assert_eq!(rt; book.pieces(), 2);
+    Ok(())
+}
+
+/// Numbers that look like chance, the same in each run.
+#[derive(Drop)]
+struct Dice {
+    state: u64,
+}
+
+impl Dice {
+    fn below(&mut self, count: u64) -> u64
+        requires { 0 < count }
+        ensures { result < count }
+    {
+        self.state = self.state.wrapping_mul(6364136223846793005).wrapping_add(1442695040888963407);
+        (self.state >> 33) % count
+    }
+}
+
+fn some_status(dice: &mut Dice) -> Status {
+    match dice.below(4) {
+        0 => Status::Reserved,
+        1 => Status::Allocated,
+        _ => Status::Available,
+    }
+}
+
+/// A card laid by chance, in the book and then in the numbers, where the book allows it.
+fn lay_some(book: &mut PieceBook, numbers: &mut Numbers, first: u128, dice: &mut Dice)
+    requires { first < 2 ^ 20 }
+{
+    let near = first + u128::from(dice.below(12));
+    let last = match book.piece_at(Number::of(Space::Asn, first)) {
+        Some(piece) if dice.below(4) == 0 => piece.range.last(),
+        Some(piece) => piece.range.last().min(near),
+        None => near,
+    };
+    let Some(range) = Range::new(Space::Asn, first, last) else {
+        return;
+    };
+    let status = some_status(dice);
+    if laid(book, &range, status).is_some() {
+        numbers.lay(first, last, status);
+    }
+}
+
+/// One change by chance.
+fn change(book: &mut PieceBook, numbers: &mut Numbers, dice: &mut Dice) {
+    let first = u128::from(dice.below(9000));
+    let at = Number::of(Space::Asn, first);
+    match dice.below(6) {
+        0 => {
+            if parted(book, at).is_some() {
+                numbers.mark(first, true);
+            }
+        }
+        1 => {
+            if made_one(book, at).is_some() {
+                numbers.mark(first, false);
+            }
+        }
+        _ => lay_some(book, numbers, first, dice),
+    }
+}
+
+#[test]
+fn random_changes_agree_with_the_numbers_one_by_one(rt: HostRuntime) -> Result<(), Fail> {
+    let mut book = PieceBook::with_room(rt.alloc(), 4096)?;
+    let mut numbers = Numbers::with_count(rt.alloc(), 9100)?;
+    let mut dice = Dice { state: 1 };
+    let whole = Range::between(Space::Asn, 0, 8999);
+    laid(&mut book, &whole, Status::Available);
+    numbers.lay(0, 8999, Status::Available);
+    for _ in 0..60 {
+        for _ in 0..50 {
+            change(&mut book, &mut numbers, &mut dice);
+        }
+        assert!(rt; numbers.agree(&book));
+    }
+    // They fill more pages than one.
+    assert!(rt; book.pieces() > 500);
     Ok(())
 }
