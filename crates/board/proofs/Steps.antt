@@ -24,7 +24,7 @@ use Rattle.reg_entry.specs.Reshaping.{split_at_number}
 use Rattle.reg_entry.specs.Sums.{held, allocated}
 use Rattle.reg_entry.specs.Whole.{IsWholeRegister}
 use Rattle.piece_book.specs.Book.{PlainBook}
-use Rattle.piece_book.specs.Cutting.{IsSplitPlace, IsJoinPlace}
+use Rattle.piece_book.specs.Cutting.{IsSplitPlace}
 use Rattle.holder_book.specs.Book.{PlainHolderBook}
 use Rattle.holding_book.specs.Book.{PlainHoldingBook, held_in, allocated_in}
 use Rattle.reg_entry.specs.Holdings.{held_by, held_by_card, allocated_by, allocated_by_card}
@@ -280,14 +280,6 @@ split_room r e at room whole after is bare same (p, found, d, lt) =
   where
     below : (n m k room : ℕ) → m ≡ n + 1 → m ≤ k → room ≡ k → n < room
     below n m k room e f g = omega arith
-
-pub join_place : (ps : List Piece) (at : ℕ) → CanJoinAt ps at → IsJoinPlace ps at
-join_place ps at h = (
-  h.positive,
-  subst (λ (o : Option Piece). MatchOption o ⊥ (λ q. (is_available q.card.status ≡ false) × (q.range.first ≡ at)
-      × MatchOption (piece_at ps (at - 1)) ⊥ (λ p. p.card ≡ q.card))) (sym h.holds_at)
-      (h.fixed, h.begins, subst (λ (o : Option Piece). MatchOption o ⊥ (λ p. p.card ≡ h.right.card)) (sym h.holds_before) h.one_card),
-)
 
 pub paint_room : (r : Register) (e : PlainEntry) (range : PlainRange) (c : Card) (room : ℕ) → IsWholeRegister (after_entry r e)
     → e.cover ≡ Some range → e.card ≡ Some c → reshaped e.request r.pool ≡ r.pool → room ≡ r.rooms.pieces

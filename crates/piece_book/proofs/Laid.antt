@@ -166,6 +166,7 @@ settled_behind (p ∷ front) rest h = after p front h
     from : (p : Piece) (rest : List Piece) → IsSettledAfter p rest → IsSettled rest
     from p [] h = tt
     from p (q ∷ rest) h = h.1
+
     after : (p : Piece) (front : List Piece) → IsSettledAfter p (front ++ rest) → IsSettled rest
     after p [] h = from p rest h
     after p (q ∷ front) h = after q front h.1

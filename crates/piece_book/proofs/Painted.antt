@@ -370,6 +370,7 @@ last_space space r s ps p h e = go (giving_way r s ps) (each_given space r s ps 
     from : (q : Piece) (run : List Piece) → AllPiecesOf space (q ∷ run) → (last_from q run).range.space ≡ space
     from q [] k = k.0.of_space
     from q (x ∷ run) k = from x run k.1
+
     go : (run : List Piece) → AllPiecesOf space run → last_of run ≡ Some p → p.range.space ≡ space
     go [] k e = absurd (cc e)
     go (q ∷ run) k e = let same : last_from q run ≡ p = cc e in subst (λ (x : Piece). x.range.space ≡ space) same (from q run k)

@@ -137,7 +137,8 @@ impl PieceBook {
     pub fn first_met(&self, range: &Range) -> Option<Piece>
         ensures { result ≡ first_met (pieces_in self.now.partition range.now.space) range.now }
     {
-        self.in_space(range.space()).first_between(range.first(), range.last())
+        self.in_space(range.space())
+            .first_between(range.first(), range.last())
     }
 
     /// The least number of the range that the pool has.

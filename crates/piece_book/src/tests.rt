@@ -7,9 +7,9 @@ mod numbers;
 
 use crate::{PieceBook, Touched};
 use num_range::{Number, Range, Space};
+use numbers::Numbers;
 use reg_entry::{Card, Piece, Status};
 use std::alloc::{AllocError, Global};
-use numbers::Numbers;
 use std::test::Fail;
 
 const GLOBAL_UNICAST: u128 = 0x2000_0000_0000_0000_0000_0000_0000_0000; // RFC 4291 2.4
@@ -269,7 +269,10 @@ impl Dice {
         requires { 0 < count }
         ensures { result < count }
     {
-        self.state = self.state.wrapping_mul(6364136223846793005).wrapping_add(1442695040888963407);
+        self.state = self
+            .state
+            .wrapping_mul(6364136223846793005)
+            .wrapping_add(1442695040888963407);
         (self.state >> 33) % count
     }
 }

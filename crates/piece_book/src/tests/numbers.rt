@@ -75,7 +75,10 @@ impl Numbers {
 
     /// How many pieces begin.
     fn count(&self) -> usize {
-        self.cells.iter().filter(|cell| cell.begins && cell.status.is_some()).count()
+        self.cells
+            .iter()
+            .filter(|cell| cell.begins && cell.status.is_some())
+            .count()
     }
 
     /// Whether the book has the same pieces.

@@ -15,7 +15,7 @@ use Rattle.reg_laws.specs.Reached.{IsReached}
 use Rattle.reg_entry.specs.Holdings.{held_by, allocated_by, held_by_card, allocated_by_card}
 use Rattle.holding_book.specs.Book.{held_in, allocated_in}
 use Rattle.board.specs.Kinds.{is_of_pieces_or_holders}
-use Rattle.board.proofs.Steps.{register_is, register_in, entry_in, next_at, bare_card, kept_by, unchanged_holdings, exchanged_holdings, added_count, edited_count, same_holders, unshaped, pool_unpainted, pool_painted, split_place, split_room, join_place, paint_room, fits_in}
+use Rattle.board.proofs.Steps.{register_is, register_in, entry_in, next_at, bare_card, kept_by, unchanged_holdings, exchanged_holdings, added_count, edited_count, same_holders, unshaped, pool_unpainted, pool_painted, split_place, split_room, paint_room, fits_in}
 use Rattle.board.proofs.board.Board.take_in.Goals as goal
 
 pub add-requires-clause-room : goal.add-requires-clause-room
@@ -120,7 +120,7 @@ join-requires c =
     let next : IsNextEntry r e = next_at r c.args.self.now.register e c.args.e.now (ap (λ (b : PlainBoard). b.register) c.self.view_is) c.e.view_is c.requires.next in
     let kept = c.self.invariant in
     let whole : IsWholeRegister r = c.reached_registers_are_whole.ensures r kept.reached in
-    join_place _ c.in-Join.at.value (c.next_entries_join_equal_pieces.ensures r e c.in-Join.at whole next c.in-Join.is)
+    c.next_entries_join_equal_pieces.ensures r e c.in-Join.at whole next c.in-Join.is
 
 pub invariant_of-self-in-Join : goal.invariant_of-self-in-Join
 invariant_of-self-in-Join c =
