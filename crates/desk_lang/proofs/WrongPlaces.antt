@@ -35,35 +35,35 @@ GoesWrong read room = (place : ℕ) (text : List ℕ) (fault : Malformed) → re
 
 -- ---- a reader that goes by the next word
 
-module _ {T U : Type 0} (form : Form) (value : List ℕ → Option T) (then : T × PlainRest → Result U Malformed) where
+module _ {T U : Type 0} (form : Form) (value : List ℕ → Option T) (read_on : T × PlainRest → Result U Malformed) where
   -- what is made of the word
   abbrev pub by_word : PlainWord → Result U Malformed
-  by_word w = (word_in form 0 (Some w) >>= λ w. value_of_word w (value w.bytes)) >>= then
+  by_word w = (word_in form 0 (Some w) >>= λ w. value_of_word w (value w.bytes)) >>= read_on
 
   -- no such word has a value
   abbrev pub IsRefused : Form → List ℕ → Type 0
   IsRefused f content = (same_form f form ≡ false) ⊎ (value content ≡ None)
 
   -- a word of the form goes on as its value does
-  pub of_form : (w : PlainWord) → same_form w.form form ≡ true → by_word w ≡ (value_of_word w (value w.bytes) >>= then)
-  of_form w same = ap (λ r. (r >>= λ w. value_of_word w (value w.bytes)) >>= then) (cond-true (same_form w.form form) (Ok w) (Err (malformed_at w.place)) same)
+  pub of_form : (w : PlainWord) → same_form w.form form ≡ true → by_word w ≡ (value_of_word w (value w.bytes) >>= read_on)
+  of_form w same = ap (λ r. (r >>= λ w. value_of_word w (value w.bytes)) >>= read_on) (cond-true (same_form w.form form) (Ok w) (Err (malformed_at w.place)) same)
 
   pub refused : (w : PlainWord) → IsRefused w.form w.bytes → by_word w ≡ Err (malformed_at w.place)
-  refused w (inl other) = ap (λ r. (r >>= λ w. value_of_word w (value w.bytes)) >>= then) (cond-false (same_form w.form form) (Ok w) (Err (malformed_at w.place)) other)
+  refused w (inl other) = ap (λ r. (r >>= λ w. value_of_word w (value w.bytes)) >>= read_on) (cond-false (same_form w.form form) (Ok w) (Err (malformed_at w.place)) other)
   refused w (inr none) =
       elim (cases_Bool (same_form w.form form)) [
         | inl same ↦
-            of_form w same ∙ ap (λ o. value_of_word w o >>= then) none
-        | inr other ↦ ap (λ r. (r >>= λ w. value_of_word w (value w.bytes)) >>= then) (cond-false (same_form w.form form) (Ok w) (Err (malformed_at w.place)) other)
+            of_form w same ∙ ap (λ o. value_of_word w o >>= read_on) none
+        | inr other ↦ ap (λ r. (r >>= λ w. value_of_word w (value w.bytes)) >>= read_on) (cond-false (same_form w.form form) (Ok w) (Err (malformed_at w.place)) other)
       ]
 
-  accepted : (w : PlainWord) (x : T) → same_form w.form form ≡ true → value w.bytes ≡ Some x → by_word w ≡ then (x, w.behind)
+  accepted : (w : PlainWord) (x : T) → same_form w.form form ≡ true → value w.bytes ≡ Some x → by_word w ≡ read_on (x, w.behind)
   accepted w x same some =
-      of_form w same ∙ ap (λ o. value_of_word w o >>= then) some
+      of_form w same ∙ ap (λ o. value_of_word w o >>= read_on) some
 
   module _ (read : PlainRest → Result U Malformed) (on_word : (rest : PlainRest) (w : PlainWord) → first_word rest ≡ Some w → read rest ≡ by_word w)
       (on_none : (place : ℕ) (text : List ℕ) (fault : Malformed) → AreBlank text → read (rest_at place text) ≡ Err fault → fault ≡ malformed_at (place + length text))
-      (room : ℕ) (filled : Filled read room) (later : (x : T) → GoesWrong (λ rest. then (x, rest)) room) where
+      (room : ℕ) (filled : Filled read room) (later : (x : T) → GoesWrong (λ rest. read_on (x, rest)) room) where
     -- words are missing
     at_nothing : (place : ℕ) (blanks : List ℕ) (fault : Malformed) → AreBlank blanks → read (rest_at place blanks) ≡ Err fault → Wrong read room place blanks fault
     at_nothing place blanks fault are e = record {
@@ -130,13 +130,13 @@ module _ {T U : Type 0} (form : Form) (value : List ℕ → Option T) (then : T 
           (sym (ap (λ t. read (rest_at place t)) (joined inner.more) ∙ goes_on (inner.front ++ inner.more) (more_ends inner.front inner.behind inner.more inner_ends inner.ends))) inner.goes_on;
     }
       where
-        goes_on : (t : List ℕ) → ends_word t ≡ true → read (rest_at place (blanks ++ (whole.word ++ t))) ≡ then (x, rest_at (place + length blanks + length whole.word) t)
+        goes_on : (t : List ℕ) → ends_word t ≡ true → read (rest_at place (blanks ++ (whole.word ++ t))) ≡ read_on (x, rest_at (place + length blanks + length whole.word) t)
         goes_on t ends =
             let w = word_of_form f (place + length blanks) whole.content (length whole.word) t in
             on_word (rest_at place (blanks ++ (whole.word ++ t))) w (first_at place blanks (whole.word ++ t) are (whole.bare t) ∙ whole.again (place + length blanks) t ends)
             ∙ accepted w x same some
 
-        inner : Wrong (λ rest. then (x, rest)) room (place + length blanks + length whole.word) whole.behind fault
+        inner : Wrong (λ rest. read_on (x, rest)) room (place + length blanks + length whole.word) whole.behind fault
         inner =
             later x (place + length blanks + length whole.word) whole.behind fault
             (sym (goes_on whole.behind whole.ends) ∙ ap (λ t. read (rest_at place (blanks ++ t))) (sym whole.parted) ∙ e)
@@ -191,16 +191,16 @@ module _ {T U : Type 0} (form : Form) (value : List ℕ → Option T) (then : T 
         (at_tail place p.blanks p.tail fault p.are_blank (ap (λ t. read (rest_at place t)) (sym p.parted) ∙ e) p.begins)
 
   -- the next word's value, and what is read behind it
-  pub value_wrong : (room : ℕ) → Filled (λ rest. next_value form value rest >>= then) room → ((x : T) → GoesWrong (λ rest. then (x, rest)) room)
-      → GoesWrong (λ rest. next_value form value rest >>= then) room
+  pub value_wrong : (room : ℕ) → Filled (λ rest. next_value form value rest >>= read_on) room → ((x : T) → GoesWrong (λ rest. read_on (x, rest)) room)
+      → GoesWrong (λ rest. next_value form value rest >>= read_on) room
   value_wrong room filled later =
-      goes_by_word (λ rest. next_value form value rest >>= then)
-      (λ rest w is. ap (λ o. (word_in form (end_place rest) o >>= λ w. value_of_word w (value w.bytes)) >>= then) is)
+      goes_by_word (λ rest. next_value form value rest >>= read_on)
+      (λ rest w is. ap (λ o. (word_in form (end_place rest) o >>= λ w. value_of_word w (value w.bytes)) >>= read_on) is)
       (λ place text fault are e. missing place text fault (nothing_at place text are) e) room filled later
     where
-      missing : (place : ℕ) (text : List ℕ) (fault : Malformed) → first_word (rest_at place text) ≡ None → (next_value form value (rest_at place text) >>= then) ≡ Err fault → fault ≡ malformed_at (place + length text)
+      missing : (place : ℕ) (text : List ℕ) (fault : Malformed) → first_word (rest_at place text) ≡ None → (next_value form value (rest_at place text) >>= read_on) ≡ Err fault → fault ≡ malformed_at (place + length text)
       missing place text fault none e =
-          let found : (next_value form value (rest_at place text) >>= then) ≡ Err (malformed_at (place + length text)) = ap (λ o. (word_in form (place + length text) o >>= λ w. value_of_word w (value w.bytes)) >>= then) none in
+          let found : (next_value form value (rest_at place text) >>= read_on) ≡ Err (malformed_at (place + length text)) = ap (λ o. (word_in form (place + length text) o >>= λ w. value_of_word w (value w.bytes)) >>= read_on) none in
           cc
 
 -- ---- the end of a line
@@ -241,8 +241,8 @@ blanks_more : (blanks : List ℕ) → AreBlank blanks → AreBlank (blanks ++ 32
 blanks_more [] h = (refl, tt)
 blanks_more (b ∷ blanks) h = (h.0, blanks_more blanks h.1)
 
-module _ {T U : Type 0} (form : Form) (value : List ℕ → Option T) (x : T) (then : T × PlainRest → Result U Malformed) where
-  pub word_filled : (m n : ℕ) → Sample form value x m → Filled (λ rest. then (x, rest)) n → Filled (λ rest. next_value form value rest >>= then) (m + n)
+module _ {T U : Type 0} (form : Form) (value : List ℕ → Option T) (x : T) (read_on : T × PlainRest → Result U Malformed) where
+  pub word_filled : (m n : ℕ) → Sample form value x m → Filled (λ rest. read_on (x, rest)) n → Filled (λ rest. next_value form value rest >>= read_on) (m + n)
   word_filled m n sample inner = record {
     fill = 32 ∷ (sample.word ++ inner.fill);
     short = omega (arith, length-append sample.word inner.fill, sample.short, inner.short);
@@ -254,14 +254,14 @@ module _ {T U : Type 0} (form : Form) (value : List ℕ → Option T) (x : T) (t
         let parted : blanks ++ (32 ∷ text) ≡ spaced ++ text = sym (append_assoc blanks (32 ∷ []) text) in
         let first = ap (λ t. first_word (rest_at place t)) parted ∙ first_at place spaced text (blanks_more blanks are) (sample.bare inner.fill) ∙ sample.again at inner.fill inner.ends in
         subst (λ (r : Result U Malformed). IsOk r)
-        (sym (ap (λ o. (word_in form (end_place (rest_at place (blanks ++ (32 ∷ text)))) o >>= λ w. value_of_word w (value w.bytes)) >>= then) first
-        ∙ accepted form value then (word_of_form form at sample.content (length sample.word) inner.fill) x sample.same sample.back))
+        (sym (ap (λ o. (word_in form (end_place (rest_at place (blanks ++ (32 ∷ text)))) o >>= λ w. value_of_word w (value w.bytes)) >>= read_on) first
+        ∙ accepted form value read_on (word_of_form form at sample.content (length sample.word) inner.fill) x sample.same sample.back))
         (inner.fills (at + length sample.word) [] tt);
   }
 
-  pub word_wrong : (m n room : ℕ) → Sample form value x m → Filled (λ rest. then (x, rest)) n → m + n ≤ room → ((y : T) → GoesWrong (λ rest. then (y, rest)) room)
-      → GoesWrong (λ rest. next_value form value rest >>= then) room
-  word_wrong m n room sample inner fits later = value_wrong form value then room (wider (word_filled m n sample inner)) later
+  pub word_wrong : (m n room : ℕ) → Sample form value x m → Filled (λ rest. read_on (x, rest)) n → m + n ≤ room → ((y : T) → GoesWrong (λ rest. read_on (y, rest)) room)
+      → GoesWrong (λ rest. next_value form value rest >>= read_on) room
+  word_wrong m n room sample inner fits later = value_wrong form value read_on room (wider (word_filled m n sample inner)) later
     where
       wider : {read : PlainRest → Result U Malformed} → Filled read (m + n) → Filled read room
       wider filled = record { fill = filled.fill; short = omega (arith, filled.short, fits); ends = filled.ends; fills = filled.fills }

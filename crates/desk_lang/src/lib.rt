@@ -17,7 +17,7 @@ pub use desk_text::{
     write_due_count, write_due_piece, write_entry, write_none, write_piece, write_reply,
     write_request,
 };
-pub use entry_line::{is_writable_entry, read_entry};
+pub use entry_line::{is_writable_entry, next_is_writable, read_entry};
 pub use line::{LINE_ROOM, Line, read_line};
 pub use rest::Malformed;
 pub use writable::is_writable;

@@ -1,5 +1,4 @@
-//! The texts that the desk writes: requests, entries, replies, and the answers to questions. Each is ASCII, has no line
-//! end, and its words are parted by single blanks.
+//! The texts that the desk writes: requests, entries, replies, and the answers to questions, each without its line end.
 #![tactic(auto)]
 
 mod append;
