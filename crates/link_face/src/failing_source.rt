@@ -87,8 +87,7 @@ impl Source for FailingSource<'_> {
         ensures plan { self.new.plan ≡ plan_after self.old.plan }
     {
         if self.plan.begin_call() {
-            // No effect at run time. The proof reads from it how many bytes there can be.
-            let _ = self.source.left();
+            self.source.is_bounded();
             self.faults = self.faults.saturating_add(1);
             return Err(Failed);
         }

@@ -47,10 +47,16 @@ impl<'a> MemSource<'a> {
 
     /// What is left to be read.
     pub fn left(&self) -> &[u8]
-        ensures left { result.now ≡ self.now.left }
-        ensures fits { length result.now + 1 < 2 ^ 64 }
+        ensures { result.now ≡ self.now.left }
     {
         &self.bytes[self.at..]
+    }
+
+    /// Tells callers what every source in memory keeps: its budget is a number of 64 bits.
+    pub fn is_bounded(&self)
+        ensures { length self.now.left + 1 < 2 ^ 64 }
+    {
+        let _ = &self.bytes[self.at..];
     }
 }
 

@@ -3,7 +3,7 @@
 use Rattle.std.proofs.Common.{◌≡◌, ℕ, zero, suc, ◌+◌, ◌<◌, true, false, List, [], ◌∷◌, ◌++◌, length, Option, None, Some, refl, sym, ◌∙◌, ap, subst, arith, inl, inr, append_assoc, append-nil, length-append}
 use Rattle.std.proofs.lemmas.Bool.{cases_Bool, ne_eqb}
 use Rattle.std.proofs.lemmas.List.{append_cancel_right}
-use Rattle.std.specs.Prelude.{◌==◌}
+use Rattle.std.specs.Prelude.{◌==◌, codes}
 use Rattle.std.specs.List.{slice_split, onto_first}
 use Rattle.std.specs.Str.Lines.{lines, lines_of_parts, strip_carriage_return}
 use Rattle.std.specs.Io.KnownBytes.{append_known, Appends, Keeps, Consumes}
@@ -175,3 +175,8 @@ no_more_has_come s s' line before taken left written taken' left' so_far same_ta
   left = Consumes-kept _ _ _ _ so_far.left same_left;
   kept = so_far.kept;
 }
+
+-- ---- the definition tried on a text
+
+worked_lines : ended_lines (codes "due\nday 20240301\r\n\r\nshow AS0") ≡ codes "due" ∷ codes "day 20240301" ∷ [] ∷ []
+worked_lines = refl
