@@ -177,7 +177,7 @@ impl Policy {
         self.quarantine_days
     }
 
-    /// For how many days what is delegated isn't transferred.
+    /// For how many days what was transferred isn't transferred again.
     pub fn hold_days(&self) -> u32
         ensures { result ≡ self.now.hold_days }
     {
