@@ -1,12 +1,12 @@
 -- What has come of a script is answered line by line: what comes next can't change what was written for the lines that
 -- have ended.
-use Rattle.std.proofs.Common.{◌≡◌, ℕ, zero, suc, ◌+◌, ◌<◌, true, false, List, [], ◌∷◌, ◌++◌, length, Option, None, Some, refl, sym, ◌∙◌, ap, subst, arith, inl, inr, append_assoc, append-nil, length-append}
+use Rattle.std.proofs.Common.{◌≡◌, ℕ, zero, suc, ◌<◌, List, [], ◌∷◌, ◌++◌, length, Option, None, Some, refl, sym, ◌∙◌, ap, subst, arith, inl, inr, append_assoc, append-nil, length-append}
 use Rattle.std.proofs.lemmas.Bool.{cases_Bool, ne_eqb}
 use Rattle.std.proofs.lemmas.List.{append_cancel_right}
 use Rattle.std.specs.Prelude.{◌==◌, codes}
 use Rattle.std.specs.List.{slice_split, onto_first}
-use Rattle.std.specs.Str.Lines.{lines, lines_of_parts, strip_carriage_return}
-use Rattle.std.specs.Io.KnownBytes.{append_known, Appends, Keeps, Consumes}
+use Rattle.std.specs.Str.Lines.{lines_of_parts, strip_carriage_return}
+use Rattle.std.specs.Io.KnownBytes.{Appends, Keeps, Consumes}
 use Rattle.std.proofs.KnownBytes.{Appends-nil, Appends-kept, Appends-trans, Consumes-nil, Consumes-kept, Consumes-trans, Keeps-refl, Keeps-trans}
 use Rattle.registry_main.specs.Session.{PlainSession, answered, replies, replies_to, session_after}
 use Rattle.registry_main.specs.LineBuffer.{HasNoNewline}

@@ -1,5 +1,5 @@
 -- What is written, followed over the lines of a script, where the bytes are known.
-use Rattle.std.proofs.Common.{◌≡◌, ℕ, ◌<◌, length, arith, List, [], ◌∷◌, ◌++◌, Option, None, Some, take, drop, take-append-drop, refl, sym, ◌∙◌, ap, subst, append_assoc, append-nil, Result, Ok, Err}
+use Rattle.std.proofs.Common.{◌≡◌, ℕ, ◌<◌, length, List, [], ◌∷◌, ◌++◌, Option, None, Some, take, drop, take-append-drop, refl, sym, ◌∙◌, ap, subst, append_assoc, append-nil, Result, Ok, Err}
 use Rattle.std.specs.Result.{OnOk, OnErr}
 use Rattle.std.specs.Str.Lines.{strip_carriage_return}
 use Rattle.std.specs.Io.KnownBytes.{append_known, Appends, Keeps, Consumes, IsAtEnd}

@@ -1,5 +1,5 @@
 -- What the lines of a script make of the register, and what each is answered.
-use Rattle.std.specs.Prelude.{ℕ, max, if◌then◌else◌, List, [], ◌∷◌, ◌++◌, length, Option, None, Some, Result, Ok, Err, codes, decimal}
+use Rattle.std.specs.Prelude.{ℕ, max, if◌then◌else◌, List, [], ◌∷◌, ◌++◌, Option, None, Some, Result, Ok, Err, codes}
 use Rattle.std.specs.Str.Lines.{lines}
 use Rattle.reg_entry.specs.declared.entry.Reply.{Reply}
 use Rattle.reg_entry.specs.declared.entry.Reply.TheVariants.{Accepted, Refused}

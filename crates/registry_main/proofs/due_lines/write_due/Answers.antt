@@ -1,9 +1,11 @@
-use Rattle.std.proofs.Common.{ℕ, List, length, subst, ap, codes, decimal, ◌++◌, ◌∙◌}
+use Rattle.std.proofs.Common.{ℕ, List, length, subst, ap, codes, decimal, ◌++◌, ◌∙◌, ◌≡◌}
+use Rattle.std.specs.Io.KnownBytes.{Appends}
+use Rattle.reg_entry.specs.declared.piece.Piece.{Piece}
 use Rattle.link_face.specs.Bytes.{AppendsPrefix}
 use Rattle.quarantine.specs.Due.{due_pieces}
 use Rattle.std.proofs.KnownBytes.{Keeps-trans, append_known-moved}
 use Rattle.desk_text.specs.ReplyText.{spaced_range}
-use Rattle.desk_text.specs.DueText.{piece_lines}
+use Rattle.desk_text.specs.DueText.{due_count_text, due_text, piece_lines}
 use Rattle.registry_main.proofs.Written.{front_more, prefix_begins, BeginsWith_kept, OnErr_always}
 use Rattle.registry_main.proofs.due_lines.write_due.Goals as goal
 
@@ -14,6 +16,22 @@ returns-in_err-write_count-clause-err g c =
     subst (λ (n : ℕ). AppendsPrefix (g.K.Sink.written c.args.out.now) (g.K.Sink.written c.write_count.new.out) (codes "due " ++ decimal n ++ codes "\n"))
     c.due_count.ensures c.in_err-write_count.ensures.err in
     OnErr_always _ (front_more _ _ head _ (prefix_begins _ _ head failed))
+
+pub loop-piece-init : goal.loop-piece-init
+loop-piece-init g c =
+    let pieces : List Piece = due_pieces c.args.pieces.now.partition c.args.day in
+    let head : List ℕ = due_count_text (length pieces) ++ codes "\n" in
+    let counted : Appends (g.K.Sink.written c.args.out.now) (g.K.Sink.written c.write_count.new.out) head =
+    subst (λ (n : ℕ). Appends (g.K.Sink.written c.args.out.now) (g.K.Sink.written c.write_count.new.out) (due_count_text n ++ codes "\n"))
+    c.due_count.ensures c.in_ok-write_count.ensures.ok in
+    let same : pieces ≡ c.into_iter-piece-iterator.result = cc in
+    record {
+      next = tt;
+      finite = tt;
+      faults = c.in_ok-write_count.ensures.cause.same;
+      kept = append_known-moved _ _ head (piece_lines c.into_iter-piece-iterator.result) (due_text pieces) counted
+          (ap (λ (ps : List Piece). head ++ piece_lines ps) same);
+    }
 
 pub loop-piece-preserved : goal.loop-piece-preserved
 loop-piece-preserved g c = record {
