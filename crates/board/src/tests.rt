@@ -1,7 +1,5 @@
 //! Registers that entries build one by one, each of them only where it may come next. The ranges are of 192.0.2.0/24
 //! (RFC 5737), by their last octets.
-ghost use Rattle.reg_entry.specs.Rooms.{AreRooms};
-
 use crate::{Board, is_of_pieces_or_holders};
 use num_range::{Number, Range, Space};
 use reg_entry::{
@@ -321,17 +319,9 @@ fn filling() -> [(Option<Step>, bool); 10] {
     ]
 }
 
-/// The register after the steps, behind those with which each begins, and the first that isn't as its row says.
-fn after(
-    rt: &HostRuntime,
-    rooms: Rooms,
-    rows: &[(Option<Step>, bool)],
-) -> Result<(Board, Option<usize>), Fail>
-    requires { AreRooms rooms }
-{
-    let mut board = Board::with_room(rt.alloc(), rooms)?;
-    let wrong = first_wrong(&mut board, &begun()).or(first_wrong(&mut board, rows));
-    Ok((board, wrong))
+/// The first step that isn't as its row says, behind those with which each register begins.
+fn wrong_after(board: &mut Board, rows: &[(Option<Step>, bool)]) -> Option<usize> {
+    first_wrong(board, &begun()).or_else(|| first_wrong(board, rows))
 }
 
 /// The octets between which the piece lies that holds this one, and its status.
@@ -344,56 +334,74 @@ fn piece_at(board: &Board, octet: u128) -> Option<(u128, u128, Status)> {
     ))
 }
 
+// A test that has a board does little else, since each of its ends drops the board.
+
+fn has_taken_blocks(board: &Board) -> bool {
+    (board.first_day(), board.last_day(), board.entries()) == (DAY, DUE, 9)
+        && (board.held(0, Space::Ipv4), board.allocated(0, Space::Ipv4)) == (192, 192)
+        && (board.held(0, Space::Asn), board.held(1, Space::Ipv4)) == (0, 0)
+}
+
 #[test]
 fn blocks_are_taken_returned_and_released(rt: HostRuntime) -> Result<(), Fail> {
-    let (board, wrong) = after(&rt, ROOMS, &blocks())?;
-    assert_eq!(rt; wrong, None);
-    assert_eq!(rt;
-        (board.first_day(), board.last_day(), board.entries()),
-        (DAY, DUE, 9)
-    );
-    assert_eq!(rt;
-        (board.held(0, Space::Ipv4), board.allocated(0, Space::Ipv4)),
-        (192, 192)
-    );
-    assert_eq!(rt;
-        (board.held(0, Space::Asn), board.held(1, Space::Ipv4)),
-        (0, 0)
-    );
-
-    let (board, wrong) = after(&rt, ROOMS, &releases())?;
-    assert_eq!(rt; wrong, None);
-    assert_eq!(rt; piece_at(&board, 64), Some((0, 255, Status::Available)));
-
-    let (board, wrong) = after(&rt, ROOMS, &all_at_once())?;
-    assert_eq!(rt; wrong, None);
-    assert_eq!(rt; piece_at(&board, 255), Some((0, 255, Status::Allocated)));
+    let mut board = Board::with_room(rt.alloc(), ROOMS)?;
+    assert_eq!(rt; wrong_after(&mut board, &blocks()), None);
+    assert!(rt; has_taken_blocks(&board));
     Ok(())
 }
 
 #[test]
-fn pieces_are_split_joined_and_transferred(rt: HostRuntime) -> Result<(), Fail> {
-    // A split and a join leave each card as it is.
-    let (mut board, wrong) = after(&rt, ROOMS, &splits())?;
-    assert_eq!(rt; wrong, None);
-    assert_eq!(rt; piece_at(&board, 63), Some((0, 63, Status::Allocated)));
-    assert_eq!(rt; piece_at(&board, 64), Some((64, 127, Status::Allocated)));
-    assert_eq!(rt; taken(&mut board, &joined(64)), Some(true));
-    assert_eq!(rt; piece_at(&board, 64), Some((0, 127, Status::Allocated)));
-
-    let (mut board, wrong) = after(&rt, ROOMS, &transfers())?;
-    assert_eq!(rt; wrong, None);
-    assert_eq!(rt;
-        (board.held(0, Space::Ipv4), board.held(1, Space::Ipv4)),
-        (0, 64)
-    );
-    let back = transferred(HELD, b"ORG-B", b"ORG-A", 0, HELD);
-    assert_eq!(rt; taken(&mut board, &back), Some(true));
-    assert_eq!(rt;
-        (board.held(0, Space::Ipv4), board.held(1, Space::Ipv4)),
-        (64, 0)
-    );
+fn what_is_released_joins_its_neighbours(rt: HostRuntime) -> Result<(), Fail> {
+    let mut board = Board::with_room(rt.alloc(), ROOMS)?;
+    assert_eq!(rt; wrong_after(&mut board, &releases()), None);
+    assert_eq!(rt; piece_at(&board, 64), Some((0, 255, Status::Available)));
     Ok(())
+}
+
+#[test]
+fn all_is_delegated_at_once(rt: HostRuntime) -> Result<(), Fail> {
+    let mut board = Board::with_room(rt.alloc(), ROOMS)?;
+    assert_eq!(rt; wrong_after(&mut board, &all_at_once()), None);
+    assert_eq!(rt; piece_at(&board, 255), Some((0, 255, Status::Allocated)));
+    Ok(())
+}
+
+/// A split and a join leave each card as it is.
+fn is_split_and_joined(board: &mut Board) -> bool {
+    piece_at(board, 63) == Some((0, 63, Status::Allocated))
+        && piece_at(board, 64) == Some((64, 127, Status::Allocated))
+        && taken(board, &joined(64)) == Some(true)
+        && piece_at(board, 64) == Some((0, 127, Status::Allocated))
+}
+
+#[test]
+fn pieces_are_split_and_joined(rt: HostRuntime) -> Result<(), Fail> {
+    let mut board = Board::with_room(rt.alloc(), ROOMS)?;
+    assert_eq!(rt; wrong_after(&mut board, &splits()), None);
+    assert!(rt; is_split_and_joined(&mut board));
+    Ok(())
+}
+
+/// The hold time is over on its day, and then the numbers go back.
+fn goes_back(board: &mut Board) -> bool {
+    let back = transferred(HELD, b"ORG-B", b"ORG-A", 0, HELD);
+    (board.held(0, Space::Ipv4), board.held(1, Space::Ipv4)) == (0, 64)
+        && taken(board, &back) == Some(true)
+        && (board.held(0, Space::Ipv4), board.held(1, Space::Ipv4)) == (64, 0)
+}
+
+#[test]
+fn pieces_are_transferred(rt: HostRuntime) -> Result<(), Fail> {
+    let mut board = Board::with_room(rt.alloc(), ROOMS)?;
+    assert_eq!(rt; wrong_after(&mut board, &transfers()), None);
+    assert!(rt; goes_back(&mut board));
+    Ok(())
+}
+
+fn is_full(board: &Board, rooms: &Rooms) -> bool {
+    Handle::read(b"ORG-A").and_then(|handle| board.holders().by_handle(&handle)) == Some(0)
+        && board.entries() == 6
+        && board.rooms() == *rooms
 }
 
 #[test]
@@ -404,11 +412,8 @@ fn rooms_are_kept(rt: HostRuntime) -> Result<(), Fail> {
         entries: 6,
         ..ROOMS
     };
-    let (board, wrong) = after(&rt, rooms, &filling())?;
-    assert_eq!(rt; wrong, None);
-    let handle = Handle::read(b"ORG-A").ok_or("a handle")?;
-    assert_eq!(rt; board.holders().by_handle(&handle), Some(0));
-    assert_eq!(rt; board.entries(), 6);
-    assert_eq!(rt; board.rooms(), rooms);
+    let mut board = Board::with_room(rt.alloc(), rooms)?;
+    assert_eq!(rt; wrong_after(&mut board, &filling()), None);
+    assert!(rt; is_full(&board, &rooms));
     Ok(())
 }

@@ -64,6 +64,36 @@ fn walked(
     Ok(all)
 }
 
+/// A piece's space, first and last number, status and until.
+type Laid = (Space, u128, u128, Status, u32);
+
+/// The first number of the first piece that can't be laid, or 0 where there are then other than 13.
+fn first_not_laid(book: &mut PieceBook, rows: &[Laid]) -> Option<u128> {
+    for (space, first, last, status, until) in rows {
+        let Some(range) = Range::new(*space, *first, *last) else {
+            return Some(*first);
+        };
+        if !laid(book, &range, &card_until(*status, *until)) {
+            return Some(*first);
+        }
+    }
+    if book.pieces() == 13 { None } else { Some(0) }
+}
+
+/// The first day on which another count of pieces is due, or another number of pieces is walked.
+fn first_miscounted(book: &PieceBook, counts: &[(u32, u32)]) -> Option<u32> {
+    for (day, count) in counts {
+        let mut walked = 0;
+        for _ in due(book, *day) {
+            walked += 1;
+        }
+        if due_count(book, *day) != *count || walked != *count {
+            return Some(*day);
+        }
+    }
+    None
+}
+
 #[test]
 fn quarantines_that_end_by_a_day(rt: HostRuntime) -> Result<(), Fail> {
     use Space::{Asn, Ipv4, Ipv6};
@@ -71,7 +101,7 @@ fn quarantines_that_end_by_a_day(rt: HostRuntime) -> Result<(), Fail> {
 
     // In each space some are in quarantine up to the day before 20000, that day and the day after it; and other pieces
     // have such days too.
-    let rows = [
+    let rows: [Laid; 13] = [
         (
             Ipv6,
             DOCUMENTATION6,
@@ -111,12 +141,7 @@ fn quarantines_that_end_by_a_day(rt: HostRuntime) -> Result<(), Fail> {
         (Asn, 64506, 64506, Allocated, 20000),
     ];
     let mut book = PieceBook::with_room(rt.alloc(), 13)?;
-    for (space, first, last, status, until) in rows {
-        let range = Range::new(space, first, last).ok_or("a range")?;
-        let card = card_until(status, until);
-        assert!(rt; laid(&mut book, &range, &card), "at {first}");
-    }
-    assert_eq!(rt; book.pieces(), 13);
+    assert_eq!(rt; first_not_laid(&mut book, &rows), None);
 
     let wanted = [
         (Asn, 64496, 20000),
@@ -131,16 +156,14 @@ fn quarantines_that_end_by_a_day(rt: HostRuntime) -> Result<(), Fail> {
         wanted.as_slice()
     );
 
-    for (day, count) in [
+    let counts = [
         (0, 0),
         (19998, 0),
         (19999, 3),
         (20000, 6),
         (20001, 9),
         (u32::MAX, 9),
-    ] {
-        assert_eq!(rt; due_count(&book, day), count, "on {day}");
-        assert_eq!(rt; walked(rt.alloc(), &book, day)?.len(), count as usize);
-    }
+    ];
+    assert_eq!(rt; first_miscounted(&book, &counts), None);
     Ok(())
 }
