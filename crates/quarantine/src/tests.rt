@@ -83,9 +83,9 @@ fn first_not_laid(book: &mut PieceBook, rows: &[Laid]) -> Option<u128> {
 /// The first day on which another count of pieces is due, or another number of pieces is walked.
 fn first_miscounted(book: &PieceBook, counts: &[(u32, u32)]) -> Option<u32> {
     for (day, count) in counts {
-        let mut walked = 0;
+        let mut walked: u32 = 0;
         for _ in due(book, *day) {
-            walked += 1;
+            walked = walked.saturating_add(1);
         }
         if due_count(book, *day) != *count || walked != *count {
             return Some(*day);
