@@ -1,5 +1,5 @@
 -- The items of pages, one page after another, while pages change.
-use Rattle.std.proofs.Common.{◌≡◌, ℕ, zero, suc, ◌+◌, ◌-◌, ◌<◌, ◌≤◌, List, [], ◌∷◌, ◌++◌, length, get_or, set, take, drop, refl, inl, inr, ap, sym, ◌∙◌, arith, length-set, length-take-le, get_or-set_same, length-append, append_assoc, zero-add, add-one}
+use Rattle.std.proofs.Common.{◌≡◌, ℕ, zero, suc, ◌+◌, ◌-◌, ◌<◌, ◌≤◌, List, [], ◌∷◌, ◌++◌, length, set, take, drop, refl, inl, inr, ap, sym, ◌∙◌, arith, length-set, length-take-le, get_or-set_same, length-append, append_assoc, zero-add, add-one}
 use Rattle.std.specs.List.{insert, remove}
 use Rattle.std.proofs.lemmas.List.{drop_at, drop-drop, drop-set, drop-append-le, take_at, take-set-le, take_more, take-append-drop, append-nil, nil_from_length, drop_more, drop_all}
 use Rattle.std.proofs.lemmas.Bool.{cases_lt}
@@ -25,6 +25,10 @@ start_next ps i h =
     ∙ ap length (joined-append (take i ps) (page_of ps i ∷ []))
     ∙ length-append (joined (take i ps)) (page_of ps i ++ [])
     ∙ ap (λ xs. start ps i + length xs) (append-nil (page_of ps i))
+
+-- a page that has nothing comes
+pub joined-insert_empty : {T : Type 0} (ps : List (List T)) (i : ℕ) → joined ps ≡ joined (insert ps i [])
+joined-insert_empty ps i = sym (joined-split ps i) ∙ sym (joined-append (take i ps) ([] ∷ drop i ps))
 
 -- a page that has nothing goes
 pub joined-remove_empty : {T : Type 0} (ps : List (List T)) (i : ℕ) → i < length ps → length (page_of ps i) ≡ 0 → joined (remove ps i) ≡ joined ps

@@ -4,7 +4,9 @@ mod Enough
 mod Halving
 mod Joining
 pub mod Looking
+mod PagePools
 mod Places
+mod Regions
 pub mod Rising
 mod Spreads
 pub mod Splicing

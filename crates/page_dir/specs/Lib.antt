@@ -1,5 +1,6 @@
 pub mod Directory
 pub mod Pages
+pub mod Regions
 pub mod Searching
 pub mod Sorted
 pub mod Splices

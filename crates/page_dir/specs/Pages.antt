@@ -1,14 +1,8 @@
 -- A list in pages: what each page keeps, and what neighbours hold together.
-use Rattle.std.specs.Prelude.{◌≡◌, ℕ, ◌+◌, ◌-◌, ◌<◌, ◌≤◌, List, [], Option, None, Some, length, map, get_or}
-use Rattle.std.specs.List.{flat_map, slice_get}
+use Rattle.std.specs.Prelude.{ℕ, ◌+◌, ◌-◌, ◌<◌, ◌≤◌, List, [], Option, None, Some, length, map, get_or}
+use Rattle.std.specs.List.{flat_map}
 use Rattle.slot_pool.specs.Cells.{held}
 use Rattle.slot_pool.specs.Stack.{times}
-
--- at most 64 items, in memory for 64, and the first of them
-pub record IsPage {T : Type 0} (items : List T) (first : Option T) (room : ℕ) : Type 0 where
-  pub within : length items ≤ 64
-  pub begins : first ≡ slice_get items 0
-  pub reserved : 64 ≤ room
 
 -- the pages one after another
 abbrev pub joined : {T : Type 0} → List (List T) → List T

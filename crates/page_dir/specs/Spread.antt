@@ -1,6 +1,6 @@
--- Pages that a pool holds from the start: some are in use, in an order, and the others wait.
+-- Pages that a pool holds: those in use stand in an order, and the others are vacant.
 use Rattle.std.specs.Prelude.{◌≡◌, ℕ, ◌+◌, ◌<◌, ◌≤◌, List, Option, None, Some, length, take}
-use Rattle.slot_pool.specs.Cells.{held}
+use Rattle.slot_pool.specs.Cells.{held, spare}
 use Rattle.slot_pool.specs.Stack.{times}
 use Rattle.page_dir.specs.Pages.{HoldsEnough, joined, page_of, pages_at, or_empty}
 
@@ -17,12 +17,11 @@ abbrev pub presence : {T : Type 0} → Option T → ℕ
 presence None = 0
 presence (Some _) = 1
 
--- one equation for each slot says that the slots in use and those that wait differ, and are the live ones
-pub record IsSpread {T : Type 0} (pool : List (Option (List T))) (order waiting : List ℕ) (order_cap waiting_cap tail_cap : ℕ) : Type 0 where
-  pub each : (slot : ℕ) → times slot order + times slot waiting ≡ presence (held pool slot)
+-- one equation for each slot says that the slots in use differ, and are the live ones
+pub record IsSpread {T : Type 0} (pool : List (Option (List T))) (order : List ℕ) (order_cap tail_cap : ℕ) : Type 0 where
+  pub each : (slot : ℕ) → times slot order ≡ presence (held pool slot)
   pub within : (slot : ℕ) → length (or_empty (held pool slot)) ≤ 64
-  pub order_room : length order + length waiting ≤ order_cap
-  pub waiting_room : length order + length waiting ≤ waiting_cap
+  pub order_room : length order + spare pool ≤ order_cap
   pub tail_room : 64 ≤ tail_cap
 
 -- a place in the pages: within a page, or at its end

@@ -7,8 +7,8 @@ ghost use Rattle.page_dir.specs.Splices.{spliced};
 use crate::locating::{Side, first_from, locate, run_from};
 use crate::replacing::replace;
 use crate::spread::Spread;
-use crate::{Page, PageWalk, Steps};
-use slot_pool::{Pool, Slot};
+use crate::{PagePool, PageWalk, Steps};
+use slot_pool::Slot;
 use std::alloc::{AllocError, Global};
 use std::marker::Model;
 use std::sync::ledger::Ledger;
@@ -76,7 +76,7 @@ impl<K: Ord + Copy, V: Copy> PageDir<K, V> {
     }
 
     /// The pool of all pages. The pairs are those of the pages in use, one page after another.
-    pub fn pages(&self) -> &Pool<Page<(K, V)>>
+    pub fn pages(&self) -> &PagePool<(K, V)>
         ensures pool { result.now ≡ self.now.pool }
         ensures joined { self.now.pairs ≡ joined (pages_at self.now.pool self.now.order) }
         ensures filled { ArePages (pages_at self.now.pool self.now.order) }

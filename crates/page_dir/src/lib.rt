@@ -5,7 +5,7 @@
 mod directory;
 pub mod laws;
 mod locating;
-mod page;
+mod page_pool;
 mod replacing;
 mod spread;
 mod steps;
@@ -15,6 +15,6 @@ mod tidying;
 mod walk;
 
 pub use directory::PageDir;
-pub use page::Page;
+pub use page_pool::PagePool;
 pub use steps::Steps;
 pub use walk::PageWalk;

@@ -4,7 +4,7 @@ ghost use Rattle.page_dir.specs.Pages.{HoldsEnough, joined, page_of};
 ghost use Rattle.page_dir.specs.Splices.{spliced};
 ghost use Rattle.page_dir.specs.Spread.{AreTidy, IsPlace, pages_in, start};
 
-use crate::page::append;
+use crate::page_pool::append;
 use crate::spread::Spread;
 use crate::tidying::tidy;
 
@@ -44,6 +44,10 @@ pub(crate) fn replace<T: Copy>(
     }
     let i = part(spread, carry, i, at);
     cut(spread, i, n);
+    if new.len() == 0 {
+        tidy(spread, carry, i.saturating_sub(1), i + 2);
+        return;
+    }
     spread.add(i, new);
     tidy(spread, carry, i.saturating_sub(1), i + 3);
 }

@@ -4,54 +4,45 @@ ghost use Rattle.page_dir.specs.Pages.{AreDistinct, page_of};
 ghost use Rattle.page_dir.specs.Splices.{spliced};
 ghost use Rattle.page_dir.specs.Spread.{pages_in};
 
-use crate::Page;
-use slot_pool::{Pool, Slot};
+use crate::PagePool;
+use slot_pool::Slot;
 use std::alloc::{AllocError, Global};
 use std::marker::Model;
 
-/// Pages of which some are in use, one after another, and the others wait. A pool holds them all from the start.
+/// Pages of which some are in use, one after another, and the others are vacant. A pool holds them all from the start.
 #[derive(Drop)]
 pub(crate) struct Spread<T: Copy> {
-    pool: Pool<Page<T>>,
+    pool: PagePool<T>,
     order: Vec<Slot>,
-    waiting: Vec<Slot>,
     tail: Vec<T>,
 }
 
 impl<T: Copy> Model for Spread<T> {
-    ghost use Rattle.std.specs.Prelude.{length, vec_capacity};
+    ghost use Rattle.std.specs.Prelude.{vec_capacity};
+    ghost use Rattle.slot_pool.specs.Cells.{spare};
     ghost use Rattle.page_dir.specs.Spread.{IsSpread, PlainSpread};
 
     ghost Value = { PlainSpread T };
 
-    ghost view = { λ s. record { pool = s.pool; order = s.order.items; spare = length s.waiting.items } };
+    ghost view = { λ s. record { pool = s.pool; order = s.order.items; spare = spare s.pool } };
 
-    ghost invariant = { λ s. IsSpread s.pool s.order.items s.waiting.items (vec_capacity s.order) (vec_capacity s.waiting) (vec_capacity s.tail) };
+    ghost invariant = { λ s. IsSpread s.pool s.order.items (vec_capacity s.order) (vec_capacity s.tail) };
 }
 
 impl<T: Copy> Spread<T> {
-    /// So many pages, all of them waiting.
+    /// So many pages, all of them vacant.
     pub(crate) fn with_pages(alloc: Global, count: u32) -> Result<Spread<T>, AllocError>
         ensures order { IfOk result (λ spread. spread.order ≡ []) }
         ensures spare { IfOk result (λ spread. spread.spare ≡ count) }
     {
-        let mut pool = Pool::with_room(alloc, count)?;
-        let mut waiting = Vec::with_capacity(alloc, count as usize)?;
-        for _ in 0..count {
-            match pool.take(Page::new(alloc)?) {
-                Ok(slot) => waiting.push(slot)?,
-                Err(_) => unreachable!(),
-            }
-        }
         Ok(Spread {
-            pool,
+            pool: PagePool::with_room(alloc, count)?,
             order: Vec::with_capacity(alloc, count as usize)?,
-            waiting,
             tail: Vec::with_capacity(alloc, 64)?,
         })
     }
 
-    pub(crate) fn pool(&self) -> &Pool<Page<T>>
+    pub(crate) fn pool(&self) -> &PagePool<T>
         ensures { result.now ≡ self.now.pool }
     {
         &self.pool
@@ -77,7 +68,7 @@ impl<T: Copy> Spread<T> {
         ensures items { result.now ≡ page_of (pages_in self.now) i }
         ensures within { length result.now ≤ 64 }
     {
-        self.pool.get(&self.order[i]).as_slice()
+        self.pool.page(&self.order[i])
     }
 
     /// The first item of a page in use that has one.
@@ -86,7 +77,7 @@ impl<T: Copy> Spread<T> {
         requires filled { 0 < length (page_of (pages_in self.now) i) }
         ensures { slice_get (page_of (pages_in self.now) i) 0 ≡ Some result }
     {
-        match self.pool.get(&self.order[i]).first() {
+        match self.pool.first(&self.order[i]) {
             None => unreachable!(),
             Some(first) => first,
         }
@@ -107,22 +98,19 @@ impl<T: Copy> Spread<T> {
         ensures pages { pages_in self.new ≡ slice_set (pages_in self.old) i (spliced at n new.now (page_of (pages_in self.old) i)) }
         ensures spare { self.new.spare ≡ self.old.spare }
     {
-        let page = self.pool.get_mut(&self.order[i]);
-        page.splice(at, n, new, &mut self.tail);
+        self.pool.splice(&self.order[i], at, n, new, &mut self.tail);
     }
 
-    /// A page that waited comes into use with these items.
+    /// A vacant page comes into use with these items.
     pub(crate) fn add(&mut self, i: usize, new: &[T])
         requires spare { 0 < self.old.spare }
         requires place { i ≤ length (pages_in self.old) }
+        requires some { 0 < length new.now }
         requires few { length new.now ≤ 64 }
         ensures pages { pages_in self.new ≡ insert (pages_in self.old) i new.now }
         ensures spare { self.new.spare + 1 ≡ self.old.spare }
     {
-        let Some(slot) = self.waiting.pop() else {
-            unreachable!()
-        };
-        self.pool.get_mut(&slot).fill(new);
+        let slot = self.pool.take(new);
         match self.order.insert(i, slot) {
             Ok(()) => {}
             Err(_) => unreachable!(),
@@ -136,9 +124,6 @@ impl<T: Copy> Spread<T> {
         ensures spare { self.new.spare ≡ self.old.spare + 1 }
     {
         let slot = self.order.remove(i);
-        match self.waiting.push(slot) {
-            Ok(()) => {}
-            Err(_) => unreachable!(),
-        }
+        self.pool.give(&slot);
     }
 }

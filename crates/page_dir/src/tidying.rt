@@ -3,7 +3,7 @@ ghost use Rattle.std.specs.Prelude.{◌≡◌, ℕ, ◌+◌, ◌<◌, ◌≤◌,
 ghost use Rattle.page_dir.specs.Pages.{HoldsEnough, joined};
 ghost use Rattle.page_dir.specs.Spread.{AreTidy, pages_in};
 
-use crate::page::append;
+use crate::page_pool::append;
 use crate::spread::Spread;
 
 /// Tidies the pages from one place to another. Those before and behind hold enough already.

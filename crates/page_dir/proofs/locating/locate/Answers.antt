@@ -1,4 +1,4 @@
-use Rattle.std.proofs.Common.{◌≡◌, ◌+◌, ◌-◌, ◌*◌, ◌^◌, ◌<◌, ◌≤◌, ◌∙◌, length, arith, ap, sym, subst}
+use Rattle.std.proofs.Common.{◌≡◌, ◌+◌, ◌-◌, ◌<◌, length, arith, subst}
 use Rattle.page_dir.specs.Pages.{joined, page_of}
 use Rattle.page_dir.specs.Searching.{FailsAt, IsTurn, PassesAt, stands_before}
 use Rattle.page_dir.specs.Spread.{pages_in}

@@ -1,7 +1,7 @@
-use Rattle.std.proofs.Common.{◌≡◌, ◌+◌, ◌-◌, ◌*◌, ◌/◌, ◌<◌, ◌≤◌, ◌∙◌, length, arith, ap, sym, subst, true, false}
+use Rattle.std.proofs.Common.{◌≡◌, ◌+◌, ◌-◌, ◌/◌, length, arith, sym, subst, true, false}
 use Rattle.page_dir.specs.Pages.{page_of}
 use Rattle.page_dir.specs.Spread.{pages_in}
-use Rattle.page_dir.specs.Searching.{FailsAt, IsHalved, PassesAt, stands_before}
+use Rattle.page_dir.specs.Searching.{PassesAt, stands_before}
 use Rattle.page_dir.proofs.Halving.{halved_after, told_at}
 use Rattle.page_dir.proofs.locating.pages_before.Goals as goal
 

@@ -1,4 +1,4 @@
-use Rattle.std.proofs.Common.{◌≡◌, ◌≤◌, ◌<◌, ◌-◌, ◌^◌, length}
+use Rattle.std.proofs.Common.{◌≤◌, ◌<◌, ◌-◌, ◌^◌, length}
 use Rattle.page_dir.specs.Pages.{page_of}
 use Rattle.page_dir.specs.Searching.{FailsAt, IsHalved, PassesAt, stands_before}
 use Rattle.page_dir.specs.Spread.{pages_in}

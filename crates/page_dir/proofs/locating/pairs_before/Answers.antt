@@ -1,5 +1,5 @@
-use Rattle.std.proofs.Common.{◌≡◌, ◌+◌, ◌-◌, ◌*◌, ◌/◌, ◌<◌, ◌≤◌, ◌∙◌, length, arith, ap, sym, subst, true, false}
-use Rattle.page_dir.specs.Searching.{FailsAt, IsHalved, PassesAt, stands_before}
+use Rattle.std.proofs.Common.{◌≡◌, ◌+◌, ◌-◌, ◌/◌, length, arith, sym, subst, true, false}
+use Rattle.page_dir.specs.Searching.{PassesAt, stands_before}
 use Rattle.page_dir.proofs.Halving.{halved_after, read_at}
 use Rattle.page_dir.proofs.locating.pairs_before.Goals as goal
 

@@ -1,4 +1,4 @@
-use Rattle.std.proofs.Common.{◌≡◌, ◌≤◌, ◌<◌, ◌-◌, ◌^◌, length}
+use Rattle.std.proofs.Common.{◌≤◌, ◌<◌, ◌-◌, ◌^◌, length}
 use Rattle.page_dir.specs.Searching.{FailsAt, IsHalved, PassesAt, stands_before}
 use Rattle.page_dir.proofs.locating.pairs_before.Given as goal
 

@@ -1,10 +1,10 @@
-use Rattle.std.proofs.Common.{◌≡◌, ◌+◌, ◌-◌, ◌<◌, ◌≤◌, ◌∙◌, [], length, arith, ap, sym, drop, take, set, subst, length-set}
+use Rattle.std.proofs.Common.{◌≡◌, ◌+◌, ◌-◌, ◌∙◌, [], length, arith, ap, drop, take, length-set}
 use Rattle.std.specs.List.{remove}
 use Rattle.std.proofs.lemmas.List.{take-set-le}
 use Rattle.std.proofs.lemmas.List.Edits.{length-remove}
 use Rattle.page_dir.specs.Pages.{joined, page_of}
 use Rattle.page_dir.specs.Splices.{spliced}
-use Rattle.page_dir.specs.Spread.{AreTidy, pages_in}
+use Rattle.page_dir.specs.Spread.{pages_in}
 use Rattle.page_dir.proofs.Enough.{tidy-removed, tidy-set}
 use Rattle.page_dir.proofs.Joining.{cut_inside, cut_removed, cut_spliced, take-remove, length-joined-remove}
 use Rattle.page_dir.proofs.replacing.cut.Goals as goal

@@ -1,6 +1,5 @@
-use Rattle.std.proofs.Common.{◌≡◌, ◌+◌, ◌-◌, ◌<◌, ◌∙◌, ◌++◌, length, arith, ap, sym, drop, take, []}
+use Rattle.std.proofs.Common.{◌-◌, ◌<◌, ◌∙◌, ◌++◌, length, arith, ap, drop, take}
 use Rattle.std.proofs.lemmas.List.{take_rest}
-use Rattle.page_dir.specs.Pages.{page_of}
 use Rattle.page_dir.specs.Spread.{pages_in}
 use Rattle.page_dir.proofs.Enough.{place_inside, tidy-parted}
 use Rattle.page_dir.proofs.Joining.{parted_joined}

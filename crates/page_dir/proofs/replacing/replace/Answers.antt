@@ -1,12 +1,12 @@
-use Rattle.std.proofs.Common.{◌≡◌, ◌+◌, ◌-◌, ◌<◌, ◌≤◌, ◌∙◌, length, arith, ap, sym, drop, take, subst}
+use Rattle.std.proofs.Common.{◌≡◌, ◌+◌, ◌-◌, ◌∙◌, length, arith, ap, sym, drop, take, subst, []}
 use Rattle.std.specs.List.{insert}
 use Rattle.page_dir.specs.Pages.{joined, page_of}
 use Rattle.page_dir.specs.Splices.{spliced}
 use Rattle.page_dir.specs.Spread.{AreTidy, pages_in, start}
 use Rattle.page_dir.proofs.Enough.{enough_grown, tidy-inserted}
-use Rattle.page_dir.proofs.Joining.{joined-replaced, joined-spliced, joined-split}
+use Rattle.page_dir.proofs.Joining.{joined-insert_empty, joined-replaced, joined-spliced, joined-split}
 use Rattle.page_dir.proofs.Splicing.{length-spliced}
-use Rattle.std.proofs.lemmas.List.{length-append}
+use Rattle.std.proofs.lemmas.List.{length-append, nil_from_length}
 use Rattle.page_dir.proofs.replacing.replace.Goals as goal
 
 pub returns-then-here-new-clause-joined : goal.returns-then-here-new-clause-joined
@@ -44,7 +44,7 @@ tidy-requires-2-clause-tidy g c =
     let ps = pages_in c.cut.new.spread in
     let r = c.part-i.result in
     let to : r + 2 + 1 ≡ r + 3 = omega arith in
-    let from : r - 1 ≡ c.saturating_sub.result = omega arith in
+    let from : r - 1 ≡ c.saturating_sub-2.result = omega arith in
     let tidy = tidy-inserted ps (r - 1) (r + 2) r c.args.new.now (omega arith) (omega arith) c.cut.ensures.there c.cut.ensures.tidy in
     rw c.add.ensures.pages (subst (λ k. AreTidy (insert ps r c.args.new.now) k (r + 3)) from (subst (λ k. AreTidy (insert ps r c.args.new.now) (r - 1) k) to tidy))
 
@@ -56,3 +56,15 @@ returns-clause-joined g c =
     ∙ joined-replaced ps (pages_in c.cut.new.spread) r c.args.n c.args.new.now c.cut.ensures.front c.cut.ensures.rest
     ∙ ap (λ k. spliced k c.args.n c.args.new.now (joined ps)) c.part-i.ensures.place
     ∙ ap (spliced (start (pages_in c.args.spread.now) c.args.i + c.args.at) c.args.n c.args.new.now) c.part-i.ensures.joined
+
+pub returns-then-new-eq0-clause-joined : goal.returns-then-new-eq0-clause-joined
+returns-then-new-eq0-clause-joined g c =
+    let ps = pages_in c.part-i.new.spread in
+    let qs = pages_in c.cut.new.spread in
+    let r = c.part-i.result in
+    let at = start (pages_in c.args.spread.now) c.args.i + c.args.at in
+    c.tidy-then-new-eq0.ensures.joined ∙ joined-insert_empty qs r
+    ∙ joined-replaced ps qs r c.args.n [] c.cut.ensures.front c.cut.ensures.rest
+    ∙ ap (λ k. spliced k c.args.n [] (joined ps)) c.part-i.ensures.place
+    ∙ ap (spliced at c.args.n []) c.part-i.ensures.joined
+    ∙ ap (λ new. spliced at c.args.n new (joined (pages_in c.args.spread.now))) (sym (nil_from_length c.args.new.now (omega (arith, c.if-new-eq0.true))))

@@ -1,8 +1,8 @@
-use Rattle.std.proofs.Common.{◌≡◌, ◌∙◌, ◌++◌, ◌-◌, ◌<◌, ap, arith, length, sym, subst, set}
+use Rattle.std.proofs.Common.{◌≡◌, ◌∙◌, ◌++◌, ◌-◌, ◌<◌, ap, arith, length, sym}
 use Rattle.std.specs.List.{remove}
 use Rattle.page_dir.specs.Pages.{joined, page_of}
 use Rattle.page_dir.specs.Splices.{spliced}
-use Rattle.page_dir.specs.Spread.{AreTidy, pages_in}
+use Rattle.page_dir.specs.Spread.{pages_in}
 use Rattle.page_dir.proofs.Enough.{tidy-merged, tidy-removed}
 use Rattle.page_dir.proofs.Joining.{joined-merged, joined-remove_empty}
 use Rattle.page_dir.proofs.Splicing.{spliced_end}

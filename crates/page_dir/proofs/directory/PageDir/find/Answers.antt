@@ -1,5 +1,5 @@
-use Rattle.std.proofs.Common.{◌≡◌, ◌+◌, ◌-◌, ◌<◌, ◌∙◌, suc, Some, None, length, get_or, arith, ap, sym, subst}
-use Rattle.std.specs.List.{prefix_len, slice_get}
+use Rattle.std.proofs.Common.{◌≡◌, ◌+◌, ◌-◌, ◌<◌, ◌∙◌, suc, Some, length, get_or, arith, ap, sym}
+use Rattle.std.specs.List.{prefix_len}
 use Rattle.std.proofs.lemmas.Option.{slice_get-get_or}
 use Rattle.page_dir.specs.Directory.{PlainDir}
 use Rattle.page_dir.specs.Pages.{joined, page_of}

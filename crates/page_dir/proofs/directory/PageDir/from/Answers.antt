@@ -1,10 +1,10 @@
-use Rattle.std.proofs.Common.{◌≡◌, ◌+◌, ◌<◌, ◌∙◌, Some, length, get_or, arith, ap, sym, subst}
+use Rattle.std.proofs.Common.{◌<◌, ◌∙◌, Some, length, get_or, arith, ap, sym}
 use Rattle.std.specs.List.{slice_get}
 use Rattle.std.proofs.lemmas.Option.{slice_get-get_or}
 use Rattle.page_dir.specs.Directory.{PlainDir}
 use Rattle.page_dir.specs.Pages.{joined, page_of}
 use Rattle.page_dir.specs.Sorted.{rank}
-use Rattle.page_dir.specs.Spread.{pages_in, start}
+use Rattle.page_dir.specs.Spread.{pages_in}
 use Rattle.page_dir.proofs.Places.{joined_at}
 use Rattle.page_dir.proofs.directory.PageDir.from.Goals as goal
 

@@ -1,4 +1,4 @@
-use Rattle.std.proofs.Common.{◌≡◌, ◌+◌, ◌-◌, ◌≤◌, ◌∙◌, length, arith, ap, sym, subst}
+use Rattle.std.proofs.Common.{◌≡◌, ◌+◌, ◌≤◌, ◌∙◌, length, arith, ap, sym, subst}
 use Rattle.page_dir.specs.Directory.{PlainDir}
 use Rattle.page_dir.specs.Pages.{joined}
 use Rattle.page_dir.specs.Sorted.{Rises, rank}

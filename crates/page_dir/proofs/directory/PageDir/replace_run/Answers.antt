@@ -1,4 +1,4 @@
-use Rattle.std.proofs.Common.{◌≡◌, ◌+◌, ◌-◌, ◌<◌, ◌≤◌, ◌∙◌, length, length-take-le, get_or, take, drop, arith, ap, sym, subst}
+use Rattle.std.proofs.Common.{◌≡◌, ◌+◌, ◌-◌, ◌∙◌, length, length-take-le, get_or, take, drop, arith, ap, sym, subst}
 use Rattle.page_dir.specs.Sorted.{Rises, rank}
 use Rattle.page_dir.specs.Splices.{spliced}
 use Rattle.page_dir.proofs.Rising.{next_part, next_rank, part_rises}

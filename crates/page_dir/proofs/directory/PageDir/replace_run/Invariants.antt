@@ -1,4 +1,4 @@
-use Rattle.std.proofs.Common.{◌≡◌, ◌+◌, ◌-◌, ◌≤◌, length, take}
+use Rattle.std.proofs.Common.{◌≡◌, ◌-◌, ◌≤◌, length, take}
 use Rattle.page_dir.specs.Sorted.{rank}
 use Rattle.page_dir.specs.Splices.{spliced}
 use Rattle.page_dir.proofs.directory.PageDir.replace_run.Given as goal

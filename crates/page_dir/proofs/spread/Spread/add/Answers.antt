@@ -1,25 +1,28 @@
-use Rattle.std.proofs.Common.{◌≡◌, ◌≤◌, ◌∙◌, length, arith, ap, sym, set, subst, Some, vec_capacity}
+use Rattle.std.proofs.Common.{◌≡◌, ◌≤◌, ◌∙◌, length, arith, ap}
 use Rattle.std.specs.List.{insert}
 use Rattle.page_dir.specs.Pages.{pages_at}
-use Rattle.page_dir.specs.Spread.{pages_in, IsSpread}
-use Rattle.page_dir.proofs.Spreads.{length-pages_at, spread_added, pages_added}
+use Rattle.page_dir.specs.Spread.{pages_in}
+use Rattle.page_dir.proofs.Spreads.{length-pages_at, pages_added, spread_added}
 use Rattle.page_dir.proofs.spread.Spread.add.Goals as goal
 
 pub invariant_of-self : goal.invariant_of-self
 invariant_of-self g c =
-    let seen : pages_at c.self.inside.pool c.self.inside.order.items ≡ pages_in c.args.self.now = ap pages_in c.self.view_is in
-    let len = length-pages_at c.self.inside.pool c.self.inside.order.items in
-    let i : c.args.i ≤ length c.self.inside.order.items = omega (arith, c.requires.place, ap length seen, len) in
-    let few : length c.fill.new.self ≤ 64 = omega (arith, ap length c.fill.ensures, c.requires.few) in
-    let added = spread_added c.self.inside.pool c.in-Some.slot c.get_mut.result.now c.fill.new.self c.get_mut.ensures.value
-    c.args.i c.in-Some.ensures.items c.self.invariant few i (omega (arith, c.in-Ok.ensures.capacity)) (omega (arith, c.in-Some.ensures.capacity)) in
-    rw c.in-Ok.ensures.items added
+    let pool = c.self.inside.pool in
+    let order = c.self.inside.order.items in
+    let seen : pages_at pool order ≡ pages_in c.args.self.now = ap pages_in c.self.view_is in
+    let len = length-pages_at pool order in
+    let i : c.args.i ≤ length order = omega (arith, c.requires.place, ap length seen, len) in
+    rw (c.in-Ok.ensures.items, c.take-slot.ensures.taken) (
+    spread_added pool c.take-slot.result c.args.new.now c.take-slot.ensures.vacant c.args.i c.self.invariant c.requires.few i (omega (arith, c.in-Ok.ensures.capacity)))
 
 pub returns-clause-pages : goal.returns-clause-pages
 returns-clause-pages g c =
-    let seen : pages_at c.self.inside.pool c.self.inside.order.items ≡ pages_in c.args.self.now = ap pages_in c.self.view_is in
-    ap (λ order. pages_at (set c.self.inside.pool c.in-Some.slot (Some c.fill.new.self)) order) c.in-Ok.ensures.items
-    ∙ pages_added c.self.inside.pool c.in-Some.slot c.get_mut.result.now c.fill.new.self c.get_mut.ensures.value
-    c.pop.new.self.items c.args.i c.in-Some.ensures.items c.self.invariant
-    ∙ ap (λ pages. insert pages c.args.i c.fill.new.self) seen
-    ∙ ap (insert (pages_in c.args.self.now) c.args.i) c.fill.ensures
+    let pool = c.self.inside.pool in
+    let order = c.self.inside.order.items in
+    let slot = c.take-slot.result in
+    let new = c.args.new.now in
+    let seen : pages_at pool order ≡ pages_in c.args.self.now = ap pages_in c.self.view_is in
+    ap (pages_at c.take-slot.new.self) c.in-Ok.ensures.items
+    ∙ ap (λ p. pages_at p (insert order c.args.i slot)) c.take-slot.ensures.taken
+    ∙ pages_added pool slot new c.take-slot.ensures.vacant c.args.i c.self.invariant
+    ∙ ap (λ pages. insert pages c.args.i new) seen

@@ -1,4 +1,4 @@
-use Rattle.std.proofs.Common.{ap, subst, ◌≤◌, length, ℕ}
+use Rattle.std.proofs.Common.{subst, ◌≤◌, length, ℕ}
 use Rattle.page_dir.specs.Pages.{page_of}
 use Rattle.page_dir.specs.Spread.{PlainSpread, pages_in}
 use Rattle.page_dir.proofs.Spreads.{pages_within}

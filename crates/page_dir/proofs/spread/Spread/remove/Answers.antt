@@ -1,14 +1,35 @@
-use Rattle.std.proofs.Common.{◌≡◌, ◌∙◌, ap}
+use Rattle.std.proofs.Common.{◌≡◌, ◌<◌, ◌∙◌, length, arith, ap, sym, set, None}
 use Rattle.std.specs.List.{remove}
 use Rattle.slot_pool.specs.Cells.{held}
-use Rattle.page_dir.specs.Pages.{or_empty, pages_at}
+use Rattle.page_dir.specs.Pages.{pages_at}
 use Rattle.page_dir.specs.Spread.{pages_in}
-use Rattle.page_dir.proofs.Spreads.{map-remove}
+use Rattle.page_dir.proofs.Spreads.{length-pages_at, pages_removed, slot_lives, spread_removed}
 use Rattle.page_dir.proofs.spread.Spread.remove.Goals as goal
+
+pub invariant_of-self : goal.invariant_of-self
+invariant_of-self g c =
+    let pool = c.self.inside.pool in
+    let order = c.self.inside.order.items in
+    let slot = c.remove-slot.result in
+    let seen : pages_at pool order ≡ pages_in c.args.self.now = ap pages_in c.self.view_is in
+    let len = length-pages_at pool order in
+    let i : c.args.i < length order = omega (arith, c.requires, ap length seen, len) in
+    let lives = slot_lives pool order _ _ c.args.i slot c.self.invariant i in
+    let live = ap (held pool) c.remove-slot.ensures.value ∙ lives.1 in
+    rw (c.give.ensures.given, c.remove-slot.ensures.items) (
+    spread_removed pool slot lives.0 live c.args.i slot c.self.invariant i (sym c.remove-slot.ensures.value) (omega (arith, c.remove-slot.ensures.capacity)))
 
 pub returns-clause-pages : goal.returns-clause-pages
 returns-clause-pages g c =
-    let seen : pages_at c.self.inside.pool c.self.inside.order.items ≡ pages_in c.args.self.now = ap pages_in c.self.view_is in
-    ap (pages_at c.self.inside.pool) c.remove-slot.ensures.items
-    ∙ map-remove (λ slot. or_empty (held c.self.inside.pool slot)) c.self.inside.order.items c.args.i
+    let pool = c.self.inside.pool in
+    let order = c.self.inside.order.items in
+    let slot = c.remove-slot.result in
+    let seen : pages_at pool order ≡ pages_in c.args.self.now = ap pages_in c.self.view_is in
+    let len = length-pages_at pool order in
+    let i : c.args.i < length order = omega (arith, c.requires, ap length seen, len) in
+    let lives = slot_lives pool order _ _ c.args.i slot c.self.invariant i in
+    let live = ap (held pool) c.remove-slot.ensures.value ∙ lives.1 in
+    ap (λ p. pages_at p c.remove-slot.new.self.items) c.give.ensures.given
+    ∙ ap (pages_at (set pool slot None)) c.remove-slot.ensures.items
+    ∙ pages_removed pool slot lives.0 live c.args.i slot c.self.invariant i (sym c.remove-slot.ensures.value)
     ∙ ap (λ pages. remove pages c.args.i) seen
