@@ -138,12 +138,16 @@ fn session(rt: &HostRuntime, rooms: Rooms, is_tight: bool) -> Result<Session, Fa
     requires { AreRooms rooms }
 {
     let row = if is_tight { TIGHT_ROW } else { FREE_ROW };
-    let policy = policy_of(rt.alloc(), row)?;
+    let text = policy_of(rt.alloc(), row)?;
+    let policy = Policy::read(rt.alloc(), &text)?;
+    let who = Name::read(b"local").ok_or("a name")?;
+    // Last, so that no earlier end has to let the board go.
+    let board = Board::with_room(rt.alloc(), rooms)?;
     Ok(Session {
-        board: Board::with_room(rt.alloc(), rooms)?,
-        policy: Policy::read(rt.alloc(), &policy)?,
+        board,
+        policy,
         day: 19783,
-        who: Name::read(b"local").ok_or("a name")?,
+        who,
     })
 }
 
@@ -173,17 +177,14 @@ fn are_accepted(answers: &[u8]) -> bool {
         .all(|line| line.is_empty() || line.starts_with(b"ok "))
 }
 
-/// The session behind what goes before a request, all of which has to be accepted.
-fn prepared(rt: &HostRuntime, rooms: Rooms, is_tight: bool, before: &str) -> Result<Session, Fail>
-    requires { AreRooms rooms }
-{
+/// Has a session answer what goes before a request, all of which has to be accepted.
+fn prepare(rt: &HostRuntime, session: &mut Session, before: &str) -> Result<(), Fail> {
     let lines = lines_before(rt, before)?;
-    let mut session = session(rt, rooms, is_tight)?;
-    let answers = answers(rt, &mut session, &lines)?;
+    let answers = answers(rt, session, &lines)?;
     if !are_accepted(&answers) {
         return Err("what goes before isn't accepted".into());
     }
-    Ok(session)
+    Ok(())
 }
 
 /// A room, of which there is just what was used where it is full.
@@ -210,12 +211,50 @@ fn rooms_in(situation: &str, session: &Session) -> Rooms
     }
 }
 
+/// The rooms in a situation, once a session has answered what goes before.
+fn rooms_after(
+    rt: &HostRuntime,
+    session: &mut Session,
+    situation: &str,
+    before: &str,
+) -> Result<Rooms, Fail>
+    ensures { IfOk result AreRooms }
+{
+    prepare(rt, session, before)?;
+    Ok(rooms_in(situation, session))
+}
+
 /// The rooms of a row.
 fn row_rooms(rt: &HostRuntime, situation: &str, is_tight: bool, before: &str) -> Result<Rooms, Fail>
     ensures { IfOk result AreRooms }
 {
-    let session = prepared(rt, ROOMS, is_tight, before)?;
-    Ok(rooms_in(situation, &session))
+    let mut session = session(rt, ROOMS, is_tight)?;
+    rooms_after(rt, &mut session, situation, before)
+}
+
+/// What a session answers to a request behind what goes before.
+fn answer_after(
+    rt: &HostRuntime,
+    session: &mut Session,
+    before: &str,
+    request: &str,
+) -> Result<Vec<u8>, Fail> {
+    prepare(rt, session, before)?;
+    answers(rt, session, request.as_bytes())
+}
+
+/// The same of a session of its own, over a register with these rooms.
+fn answer_in(
+    rt: &HostRuntime,
+    rooms: Rooms,
+    is_tight: bool,
+    before: &str,
+    request: &str,
+) -> Result<Vec<u8>, Fail>
+    requires { AreRooms rooms }
+{
+    let mut session = session(rt, rooms, is_tight)?;
+    answer_after(rt, &mut session, before, request)
 }
 
 /// Whether the row's request is refused as it says, for the first of the reasons.
@@ -232,8 +271,7 @@ fn is_refused(rt: &HostRuntime, row: &str) -> Result<bool, Fail> {
     };
     let is_tight = situation.contains("tight");
     let rooms = row_rooms(rt, situation, is_tight, before)?;
-    let mut session = prepared(rt, rooms, is_tight, before)?;
-    let answer = answers(rt, &mut session, request.as_bytes())?;
+    let answer = answer_in(rt, rooms, is_tight, before, request)?;
     let wanted = format!(in rt.alloc(); "refused {refusal}\n")?;
     let is_first = reasons.split(' ').next() == refusal.split(' ').next();
     Ok(is_first && answer.as_slice() == wanted.as_bytes())
