@@ -1,18 +1,18 @@
 -- Each change of ranges apart is one splice, and leaves them apart.
-use Rattle.std.proofs.Common.{◌≡◌, ℕ, ◌+◌, ◌-◌, ◌<◌, ◌≤◌, suc, Bool, true, false, not, ◌&&◌, ◌||◌, ◌==◌, cond, nat_lt, nat_le, List, [], ◌∷◌, ◌++◌, length, take, drop, Option, None, Some, is_some, find, filter, ◌⊎◌, inl, inr, length-append, length-drop, length-take, refl, sym, ◌∙◌, ap, subst, arith}
+use Rattle.std.proofs.Common.{◌≡◌, ℕ, ◌+◌, ◌<◌, ◌≤◌, suc, Bool, true, false, not, ◌&&◌, ◌||◌, ◌==◌, cond, nat_lt, nat_le, List, [], ◌∷◌, ◌++◌, length, take, drop, Option, None, Some, is_some, find, filter, ◌⊎◌, inl, inr, length-append, length-drop, length-take, refl, sym, ◌∙◌, ap, subst, arith}
 use Rattle.std.proofs.lemmas.Bool.{cases_Bool, cond_both, cond-true, cond-false, false_from_ne_true, false≢true, not_from_true, not_from_false}
 use Rattle.std.proofs.lemmas.Bool.Decides.{nat_tests}
 use Rattle.std.proofs.lemmas.Option.{none-some}
 use Rattle.std.specs.List.{AllByRecursion}
 use Rattle.std.specs.Option.{option_map}
-use Rattle.num_range.specs.Range.{PlainRange, IsRange, first_number, same_range, range_before, lies_inside, ranges_meet}
+use Rattle.num_range.specs.Range.{PlainRange, IsRange, first_number, same_range, range_before, lies_inside}
 use Rattle.num_range.specs.Space.{space_rank}
 use Rattle.reg_entry.specs.Ranges.{IsBelow, AreApart, value_of_range, first_meeting, ranges_inside, with_range, without_range, without_inside}
 use Rattle.page_dir.specs.Splices.{spliced}
 use Rattle.sub_book.specs.Book.{NoneStraddles}
 use Rattle.sub_book.specs.Order.{ends_below, ended_below}
 use Rattle.sub_book.proofs.ApartLists.{AllAbove, Apart, all_above, apart_of, are_apart, are_apart_kept}
-use Rattle.sub_book.proofs.Sought.{IsSought, meets, is_range, meeting, exact, none_behind, find_none, filter_none, place_past, place_here, fails_past, none_ends_below}
+use Rattle.sub_book.proofs.Sought.{meets, is_range, meeting, exact, none_behind, find_none, filter_none, place_past, place_here, fails_past, none_ends_below}
 
 -- ---- splices
 

@@ -1,5 +1,5 @@
 -- How many ranges lie inside one, and how many numbers they have.
-use Rattle.std.proofs.Common.{◌≡◌, ℕ, ◌+◌, ◌-◌, ◌*◌, ◌^◌, ◌<◌, ◌≤◌, suc, Bool, true, false, ◌&&◌, ◌||◌, ◌==◌, cond, nat_lt, nat_le, List, [], ◌∷◌, length, filter, inl, inr, refl, sym, ◌∙◌, ap, subst, arith}
+use Rattle.std.proofs.Common.{◌≡◌, ℕ, ◌+◌, ◌-◌, ◌^◌, ◌<◌, ◌≤◌, true, false, ◌&&◌, ◌||◌, ◌==◌, cond, nat_lt, nat_le, List, [], ◌∷◌, length, inl, inr, refl, sym, ◌∙◌, ap, arith}
 use Rattle.std.proofs.lemmas.Bool.{and_parts, cases_Bool, cond-true, cond-false, eqb-true, leb-true, false_from_ne_true, false≢true}
 use Rattle.std.proofs.lemmas.Bool.Decides.{nat_tests}
 use Rattle.std.specs.List.{AllByRecursion}
@@ -8,7 +8,7 @@ use Rattle.num_range.specs.declared.space.Space.TheVariants.{Asn, Ipv4, Ipv6}
 use Rattle.num_range.specs.Range.{PlainRange, IsRange, size_of}
 use Rattle.num_range.specs.Space.{space_rank, top_of}
 use Rattle.reg_entry.specs.Pieces.{IsPoolRange}
-use Rattle.reg_entry.specs.Ranges.{IsBelow, AreApart, ranges_inside}
+use Rattle.reg_entry.specs.Ranges.{AreApart, ranges_inside}
 use Rattle.reg_entry.specs.Sums.{ranges_size}
 use Rattle.sub_book.specs.Book.{ranges_meeting}
 use Rattle.sub_book.proofs.ApartLists.{AllAbove, Apart, apart_of}
@@ -95,9 +95,10 @@ bounds r p e = bounds_numbers (space_rank p.space) (space_rank r.space) p.first 
 
 begin_behind : {V : Type 0} (r p : PlainRange) (ps : List (PlainRange × V)) → inside r p ≡ true → AllAbove p ps → BeginFrom r (p.last + 1) ps
 begin_behind r p [] t above = tt
-begin_behind r p (q ∷ ps) t above =
-    (λ u. behind_numbers (space_rank p.space) (space_rank q.0.space) (space_rank r.space) p.last q.0.first q.0.last r.first r.last (bounds r p t).0 above.0 u,
-    begin_behind r p ps t above.1)
+begin_behind r p (q ∷ ps) t above = (
+  λ u. behind_numbers (space_rank p.space) (space_rank q.0.space) (space_rank r.space) p.last q.0.first q.0.last r.first r.last (bounds r p t).0 above.0 u,
+  begin_behind r p ps t above.1,
+)
 
 begin_from : {V : Type 0} (r : PlainRange) (ps : List (PlainRange × V)) → BeginFrom r r.first ps
 begin_from r [] = tt

@@ -9,10 +9,10 @@ use Rattle.std.specs.Ordering.{is_lt, nat_cmp, ordering_then}
 use Rattle.num_range.specs.declared.space.Space.{Space}
 use Rattle.num_range.specs.declared.space.Space.TheVariants.{Asn, Ipv4, Ipv6}
 use Rattle.num_range.specs.Number.{PlainNumber}
-use Rattle.num_range.specs.Range.{PlainRange, IsRange, same_range}
+use Rattle.num_range.specs.Range.{PlainRange, same_range}
 use Rattle.num_range.specs.Space.{space_rank, same_space}
 use Rattle.num_range.specs.contracts.space.Space.{the_type}
-use Rattle.reg_entry.specs.Ranges.{IsBelow, AreApart}
+use Rattle.reg_entry.specs.Ranges.{AreApart}
 use Rattle.page_dir.specs.Sorted.{Rises, rank}
 use Rattle.sub_book.specs.Order.{last_cmp, ends_below, ended_below}
 use Rattle.sub_book.specs.contracts.by_last.ByLastOrd.TheImpl.{cmp-value}

@@ -7,8 +7,7 @@ use Rattle.std.specs.Option.{option_to_list}
 use Rattle.num_range.specs.Number.{PlainNumber, number_before}
 use Rattle.num_range.specs.Range.{PlainRange, IsRange, first_number, same_range, range_holds, lies_inside, ranges_meet}
 use Rattle.num_range.specs.Space.{space_rank}
-use Rattle.reg_entry.specs.Ranges.{IsBelow, AreApart, value_of_range, first_meeting}
-use Rattle.sub_book.specs.Book.{enclosing, ranges_meeting}
+use Rattle.reg_entry.specs.Ranges.{IsBelow, AreApart}
 use Rattle.sub_book.specs.Order.{ends_below, ended_below}
 use Rattle.sub_book.specs.Walk.{MeetFirst}
 use Rattle.sub_book.proofs.ApartLists.{AllAbove, Apart, apart_of}
@@ -83,8 +82,8 @@ pub straddled : (at : PlainNumber) → IsSought at (straddles at)
 straddled at = record {
   late = λ p e. straddles_late (space_rank p.space) (space_rank at.space) p.first p.last at.value (at.value - 1) e;
   first = λ p q range below from e.
-    absurd (holds_once (space_rank p.space) (space_rank q.space) (space_rank at.space) p.first p.last q.first q.last at.value below from
-    (and_parts (range_holds q at) (range_holds q (number_before at)) e).0);
+      absurd (holds_once (space_rank p.space) (space_rank q.space) (space_rank at.space) p.first p.last q.first q.last at.value below from
+      (and_parts (range_holds q at) (range_holds q (number_before at)) e).0);
 }
 
 -- ---- what is found
@@ -162,9 +161,10 @@ enclosed_once a b s pf pl qf ql rf rl o h e = grind (arith, nat_tests)
 
 none_more : {V : Type 0} (r p : PlainRange) (ps : List (PlainRange × V)) → IsRange r → AllAbove p ps → encloses r p ≡ true → AllByRecursion (λ q. encloses r q.0 ≡ false) ps
 none_more r p [] range above e = tt
-none_more r p (q ∷ ps) range above e =
-    (enclosed_once (space_rank p.space) (space_rank q.0.space) (space_rank r.space) p.first p.last q.0.first q.0.last r.first r.last range.0 above.0 e,
-    none_more r p ps range above.1 e)
+none_more r p (q ∷ ps) range above e = (
+  enclosed_once (space_rank p.space) (space_rank q.0.space) (space_rank r.space) p.first p.last q.0.first q.0.last r.first r.last range.0 above.0 e,
+  none_more r p ps range above.1 e,
+)
 
 one_encloses : {V : Type 0} (r : PlainRange) (ps : List (PlainRange × V)) → IsRange r → Apart ps
     → filter (λ q. encloses r q.0) ps ≡ option_to_list (find (λ q. encloses r q.0) ps)
@@ -193,9 +193,10 @@ later_numbers a b s pl qf ql x o h k = grind (arith, nat_tests)
 pub none_ends_below : {V : Type 0} (n : PlainNumber) (p : PlainRange) (ps : List (PlainRange × V)) → Apart ps → AllAbove p ps → ends_below n p ≡ false
     → AllByRecursion (λ q. ends_below n q.0 ≡ false) ps
 none_ends_below n p [] apart above e = tt
-none_ends_below n p (q ∷ ps) apart above e =
-    (later_numbers (space_rank p.space) (space_rank q.0.space) (space_rank n.space) p.last q.0.first q.0.last n.value apart.0.0 above.0 e,
-    none_ends_below n p ps apart.2 above.1 e)
+none_ends_below n p (q ∷ ps) apart above e = (
+  later_numbers (space_rank p.space) (space_rank q.0.space) (space_rank n.space) p.last q.0.first q.0.last n.value apart.0.0 above.0 e,
+  none_ends_below n p ps apart.2 above.1 e,
+)
 
 pub filter_past : {V : Type 0} (n : PlainNumber) (test : PlainRange → Bool) (ps : List (PlainRange × V)) → IsSought n test
     → filter (λ p. test p.0) (drop (ended_below n ps) ps) ≡ filter (λ p. test p.0) ps

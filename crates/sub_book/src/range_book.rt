@@ -155,8 +155,8 @@ impl<T: Copy> RangeBook<T> {
     {
         self.are_apart();
         let mut count = 0;
-        for (range, _) in self.walk(r) {
-            if range.inside(r) {
+        for (met, _) in self.walk(r) {
+            if met.inside(r) {
                 count += 1;
             }
         }

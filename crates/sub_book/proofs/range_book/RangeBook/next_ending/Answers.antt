@@ -1,4 +1,4 @@
-use Rattle.std.proofs.Common.{◌≡◌, ℕ, Some, sym, ◌∙◌, ap}
+use Rattle.std.proofs.Common.{ℕ, Some, sym, ◌∙◌, ap}
 use Rattle.std.specs.List.{slice_get}
 use Rattle.num_range.specs.Range.{PlainRange}
 use Rattle.sub_book.specs.Book.{PlainRangeBook}

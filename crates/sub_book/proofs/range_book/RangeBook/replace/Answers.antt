@@ -22,9 +22,9 @@ replace_run-requires-clause-room g c =
 pub invariant_of-self : goal.invariant_of-self
 invariant_of-self g c = record {
   apart =
-    subst (λ (ps : List (PlainRange × g.row.T.Denot)). AreApart ps) (sym c.replace_run.ensures.pairs)
-    (replaced c.args.r.now c.args.gone c.args.value _ c.ending_at.result c.deref.result.now _ c.args.self.now c.self.view_is c.first_number.ensures c.ending_at.ensures
-    (c.deref.ensures.value ∙ c.hold.ensures.items) c.requires.there c.requires.apart c.requires.room).apart;
+      subst (λ (ps : List (PlainRange × g.row.T.Denot)). AreApart ps) (sym c.replace_run.ensures.pairs)
+      (replaced c.args.r.now c.args.gone c.args.value _ c.ending_at.result c.deref.result.now _ c.args.self.now c.self.view_is c.first_number.ensures c.ending_at.ensures
+      (c.deref.ensures.value ∙ c.hold.ensures.items) c.requires.there c.requires.apart c.requires.room).apart;
   reserved = c.hold.ensures.capacity;
 }
 
