@@ -23,7 +23,7 @@ use std::marker::Model;
 #[derive(Drop)]
 pub struct RangeBook<T: Copy> {
     dir: PageDir<ByLast, T>,
-    // The range that comes in, of a size that isn't known here.
+    // The range that comes in: memory for one, since an array of a type parameter has no known size.
     coming: Vec<(ByLast, T)>,
 }
 
@@ -97,7 +97,8 @@ impl<T: Copy> RangeBook<T> {
         self.next_ending(r.first_number())
     }
 
-    /// The least range that has a number in common with this one. It is found by one halving, as the next three are.
+    /// The least range that has a number in common with this one. It is one look-up by halving, as each of the next three
+    /// calls is.
     pub fn first_met(&self, r: &Range) -> Option<(Range, T)>
         ensures { result ≡ first_meeting self.now.ranges r.now }
     {
@@ -149,7 +150,7 @@ impl<T: Copy> RangeBook<T> {
         RangeWalk::over(*r, self.dir.walk_from(&ByLast::ending_at(r.first_number())))
     }
 
-    /// How many ranges lie inside this one. Each that meets it is looked at.
+    /// How many ranges lie inside this one. One look-up, and each range that meets this one is gone over.
     pub fn count_inside(&self, r: &Range) -> u32
         ensures { result ≡ length (ranges_inside self.now.ranges r.now) }
     {
@@ -163,7 +164,7 @@ impl<T: Copy> RangeBook<T> {
         count
     }
 
-    /// How many numbers the ranges that lie inside this one have. Each that meets it is looked at.
+    /// How many numbers the ranges that lie inside this one have, at the same cost.
     pub fn numbers_inside(&self, r: &Range) -> u128
         requires { IsPoolRange r.now }
         ensures { result ≡ ranges_size (ranges_inside self.now.ranges r.now) }
@@ -179,7 +180,7 @@ impl<T: Copy> RangeBook<T> {
         numbers
     }
 
-    /// Gives the range this value, where the range is there, and else adds it.
+    /// Gives the range this value, where the range is there, and else adds it: one look-up, and one splice of a page.
     pub fn put(&mut self, r: Range, value: T)
         requires free { value_of_range self.old.ranges r ≡ None → first_meeting self.old.ranges r ≡ None }
         requires room { value_of_range self.old.ranges r ≡ None → length self.old.ranges < self.old.room }
@@ -192,7 +193,7 @@ impl<T: Copy> RangeBook<T> {
         self.replace(&r, gone, Some(value));
     }
 
-    /// Takes out the range.
+    /// Takes out the range, by one splice of a page.
     pub fn take_out(&mut self, r: &Range)
         requires { IsSome (value_of_range self.old.ranges r.now) }
         ensures ranges { self.new.ranges ≡ without_range self.old.ranges r.now }
@@ -203,7 +204,7 @@ impl<T: Copy> RangeBook<T> {
         self.replace(r, 1, None);
     }
 
-    /// Takes out the ranges that lie inside this one, as one run. They are counted first.
+    /// Takes out the ranges that lie inside this one, which are counted first, and then go in one splice.
     pub fn drop_inside(&mut self, r: &Range)
         requires { NoneStraddles self.old.ranges r.now }
         ensures ranges { self.new.ranges ≡ without_inside self.old.ranges r.now }
