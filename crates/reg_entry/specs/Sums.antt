@@ -16,7 +16,7 @@ use Rattle.reg_entry.specs.Ranges.{lies_inside}
 use Rattle.reg_entry.specs.Register.{Register, register_pieces}
 
 -- how many numbers the ranges have
-abbrev pub ranges_size : List (PlainRange × SubCard) → ℕ
+abbrev pub ranges_size : {T : Type 0} → List (PlainRange × T) → ℕ
 ranges_size [] = 0
 ranges_size (s ∷ ss) = size_of s.0 + ranges_size ss
 

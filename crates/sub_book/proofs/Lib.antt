@@ -1,0 +1,6 @@
+pub mod ApartLists
+pub mod LastOrder
+pub mod Sought
+pub mod Changed
+pub mod Counted
+pub mod Replaced
