@@ -1,0 +1,12 @@
+//! HTTP/1.1 messages from any pieces: the framer, what a head says, and the heads and error bodies of replies.
+#![tactic(auto)]
+
+mod append;
+mod head;
+mod number;
+mod reply;
+mod reply_error;
+
+pub use head::Head;
+pub use reply::{ReplyHead, write_head};
+pub use reply_error::write_error;
