@@ -1,1 +1,5 @@
 pub mod Numbers
+pub mod Heads
+pub mod Steps
+pub mod Room
+pub mod Taken

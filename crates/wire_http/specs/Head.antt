@@ -1,8 +1,10 @@
 -- The head of a message: what httparse reads as a request's head by default, of at most 8,192 bytes and 64 header lines
 -- (RFC 9112 2.1, 3, 5).
-use Rattle.std.specs.Prelude.{◌≡◌, ℕ, ◌≤◌, List, [], ◌++◌, length, map}
+use Rattle.std.specs.Prelude.{◌≡◌, ℕ, ◌≤◌, List, [], ◌++◌, length, map, take}
 use Rattle.httparse.specs.Grammar.{RequestHead, print_request, ReadsRequest}
-use Rattle.httparse.specs.Spans.{name_and_value}
+use Rattle.httparse.specs.declared.spans.HeaderSpan.{HeaderSpan}
+use Rattle.httparse.specs.declared.spans.RequestSpans.{RequestSpans}
+use Rattle.httparse.specs.Spans.{name_and_value, span_bytes, header_bytes}
 
 -- the bytes are the head and then the rest
 pub record ReadsHead (bytes : List ℕ) (h : RequestHead) (rest : List ℕ) : Type 0 where
@@ -32,3 +34,12 @@ pub record PlainHead : Type 0 where
 
 abbrev pub plain_head : RequestHead → PlainHead
 plain_head h = record { method = h.method; target = h.target; minor = h.minor; fields = map name_and_value h.fields }
+
+-- the head whose parts stand at these places of the bytes
+abbrev pub head_at : List ℕ → List HeaderSpan → RequestSpans → PlainHead
+head_at bytes headers spans = record {
+  method = span_bytes bytes spans.method;
+  target = span_bytes bytes spans.path;
+  minor = spans.version;
+  fields = map (header_bytes bytes) (take spans.headers headers);
+}

@@ -1,6 +1,10 @@
 pub mod Head
 pub mod Fields
 pub mod Occurrence
+pub mod Front
 pub mod Body
+pub mod Messages
+pub mod Step
+pub mod Framer
 pub mod Reply
 pub mod ErrorBody

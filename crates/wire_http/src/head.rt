@@ -2,12 +2,15 @@
 ghost use Rattle.std.specs.Prelude.{◌≡◌, ◌-◌, ◌^◌, [], ◌∷◌, length, codes, All, IfSome, IfNone};
 ghost use Rattle.std.specs.Option.{option_copied};
 ghost use Rattle.std.specs.Str.{bytes_eq, str_eq_ignore_ascii_case};
-ghost use Rattle.httparse.specs.Spans.{IsHeaderWithin};
+ghost use Rattle.httparse.specs.Spans.{IsHeaderWithin, IsRequestWithin};
+ghost use Rattle.wire_http.specs.Head.{head_at, IsHead, plain_head};
+ghost use Rattle.httparse.specs.Grammar.{RequestHead};
 ghost use Rattle.addr_text.specs.Reading.{decimal_up_to};
 ghost use Rattle.wire_http.specs.Fields.{occurs_of, field, is_close, asks_to_close, bearer_key, key_of, at_least_of};
 ghost use Rattle.wire_http.specs.Body.{body_length, given_length, served_length};
 ghost use Rattle.wire_http.specs.Occurrence.{occurs, values_in};
 
+use crate::front::{Front, read_front};
 use crate::number::read_number;
 use addr_text::read_decimal;
 use httparse::spans::{HeaderSpan, RequestSpans};
@@ -25,13 +28,12 @@ pub struct Head<'a> {
 }
 
 impl<'a> Model for Head<'a> {
-    ghost use Rattle.std.specs.Prelude.{take, map};
-    ghost use Rattle.httparse.specs.Spans.{IsRequestWithin, span_bytes, header_bytes};
-    ghost use Rattle.wire_http.specs.Head.{PlainHead};
+    ghost use Rattle.httparse.specs.Spans.{IsRequestWithin};
+    ghost use Rattle.wire_http.specs.Head.{PlainHead, head_at};
 
     ghost Value = { PlainHead };
 
-    ghost view = { λ h. record { method = span_bytes h.bytes.now h.spans.method; target = span_bytes h.bytes.now h.spans.path; minor = h.spans.version; fields = map (header_bytes h.bytes.now) (take h.spans.headers h.headers) } };
+    ghost view = { λ h. head_at h.bytes.now h.headers h.spans };
 
     ghost invariant = { λ h. IsRequestWithin h.bytes.now h.headers h.spans };
 }
@@ -111,6 +113,27 @@ fn served_length(value: &[u8]) -> Result<usize, u16>
 }
 
 impl<'a> Head<'a> {
+    /// The head whose parts stand at these places of the bytes.
+    pub(crate) fn new(bytes: &'a [u8], spans: RequestSpans, headers: [HeaderSpan; 64]) -> Head<'a>
+        requires { IsRequestWithin bytes.now headers spans }
+        ensures { result ≡ head_at bytes.now headers spans }
+    {
+        Head { bytes, spans, headers }
+    }
+
+    /// The head that the bytes are, all of them (RFC 9112 2.1).
+    pub fn read(bytes: &'a [u8]) -> Option<Head<'a>>
+        ensures some { IfSome result (λ head. (h : RequestHead) × IsHead bytes.now h × (head ≡ plain_head h)) }
+        ensures none { IfNone result ((h : RequestHead) → ¬ (IsHead bytes.now h)) }
+    {
+        match read_front(bytes) {
+            Front::Whole(head, size) if size == bytes.len() => Some(head),
+            Front::Whole(..) => None,
+            Front::Partial => None,
+            Front::Never => None,
+        }
+    }
+
     pub fn method(&self) -> &'a [u8]
         ensures { result.now ≡ self.now.method }
     {

@@ -2,11 +2,17 @@
 #![tactic(auto)]
 
 mod append;
+mod first_step;
+mod framer;
+mod front;
 mod head;
+mod message;
 mod number;
 mod reply;
 mod reply_error;
 
+pub use framer::Framer;
 pub use head::Head;
+pub use message::{ConnEnd, Message, Step};
 pub use reply::{ReplyHead, write_head};
 pub use reply_error::write_error;
