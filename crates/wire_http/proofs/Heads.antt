@@ -32,9 +32,9 @@ head_in_front n bytes h rest x =
 pub overflow_never : (bytes : List ℕ) → RequestOverflows 64 (take 8192 bytes) → NeverHasHead bytes
 overflow_never bytes over more h rest x =
     let whole : take 8192 bytes ++ (drop 8192 bytes ++ more) ≡ bytes ++ more =
-        sym (append_assoc (take 8192 bytes) (drop 8192 bytes) more) ∙ ap (λ b. b ++ more) (take-append-drop 8192 bytes) in
+    sym (append_assoc (take 8192 bytes) (drop 8192 bytes) more) ∙ ap (λ b. b ++ more) (take-append-drop 8192 bytes) in
     let many : 64 < length h.fields =
-        over (drop 8192 bytes ++ more) h rest (subst (λ (b : List ℕ). ReadsRequest b h rest) (sym whole) x.reads) in
+    over (drop 8192 bytes ++ more) h rest (subst (λ (b : List ℕ). ReadsRequest b h rest) (sym whole) x.reads) in
     let few = x.lines in
     absurd (omega arith)
 

@@ -3,3 +3,5 @@ pub mod Heads
 pub mod Steps
 pub mod Room
 pub mod Taken
+pub mod Unique
+pub mod Rows

@@ -23,7 +23,7 @@ nothing_has_no_head h rest x =
 head_alone : (bytes : List ℕ) (size : ℕ) (h : RequestHead) (rest : List ℕ) → ReadsHead bytes h rest → size ≡ length (print_request h) → IsHead (take size bytes) h
 head_alone bytes size h rest x size_is =
     let front : take size bytes ≡ print_request h =
-        ap (λ k. take k bytes) size_is ∙ ap (take (length (print_request h))) x.reads.1 ∙ take-append_seam (print_request h) rest in
+    ap (λ k. take k bytes) size_is ∙ ap (take (length (print_request h))) x.reads.1 ∙ take-append_seam (print_request h) rest in
     record {
       reads = (x.reads.0, front ∙ sym (append-nil (print_request h)));
       short = x.short;

@@ -4,6 +4,7 @@ pub mod Occurrence
 pub mod Front
 pub mod Body
 pub mod Messages
+pub mod Pieces
 pub mod Step
 pub mod Framer
 pub mod Reply

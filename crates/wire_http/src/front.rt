@@ -3,8 +3,8 @@ ghost use Rattle.std.specs.Prelude.{◌≡◌, take};
 ghost use Rattle.wire_http.specs.Front.{IsFront};
 
 use crate::head::Head;
-use httparse::spans::{EMPTY_HEADER_SPAN, parse_request};
 use httparse::Status;
+use httparse::spans::{EMPTY_HEADER_SPAN, parse_request};
 
 /// How many bytes the longest head has.
 pub(crate) const LONGEST_HEAD: usize = 8192;

@@ -53,7 +53,11 @@ fn same_name(a: &[u8], b: &[u8]) -> bool
 }
 
 /// The value of the first header line of the name, and the lines behind it.
-fn next_named<'a, 'h>(bytes: &'a [u8], headers: &'h [HeaderSpan], name: &[u8]) -> Option<(&'a [u8], &'h [HeaderSpan])>
+fn next_named<'a, 'h>(
+    bytes: &'a [u8],
+    headers: &'h [HeaderSpan],
+    name: &[u8],
+) -> Option<(&'a [u8], &'h [HeaderSpan])>
     requires { All (IsHeaderWithin (length bytes.now)) headers.now }
     ensures some { IfSome result (λ next. values_in bytes.now headers.now name.now ≡ next.0.now ∷ values_in bytes.now next.1.now name.now) }
     ensures within { IfSome result (λ next. All (IsHeaderWithin (length bytes.now)) next.1.now) }
@@ -118,7 +122,11 @@ impl<'a> Head<'a> {
         requires { IsRequestWithin bytes.now headers spans }
         ensures { result ≡ head_at bytes.now headers spans }
     {
-        Head { bytes, spans, headers }
+        Head {
+            bytes,
+            spans,
+            headers,
+        }
     }
 
     /// The head that the bytes are, all of them (RFC 9112 2.1).

@@ -6,13 +6,17 @@ mod first_step;
 mod framer;
 mod front;
 mod head;
+mod laws;
 mod message;
 mod number;
 mod reply;
 mod reply_error;
+#[cfg(test)]
+mod tests;
 
 pub use framer::Framer;
 pub use head::Head;
+pub use laws::{messages_are_unique, pieces_do_not_matter};
 pub use message::{ConnEnd, Message, Step};
-pub use reply::{ReplyHead, write_head};
+pub use reply::{ReplyHead, is_reply_code, write_head};
 pub use reply_error::write_error;

@@ -22,6 +22,16 @@ pub struct ReplyHead {
     pub close: bool,
 }
 
+/// Whether replies have the code.
+pub fn is_reply_code(code: u16) -> bool
+    ensures { result ≡ is_reply_code code }
+{
+    matches!(
+        code,
+        200 | 400 | 401 | 404 | 405 | 409 | 411 | 413 | 500 | 503
+    )
+}
+
 /// The reason phrase of the code.
 #[tactic(auto, unfolding(crate::specs::Reply::title_of))]
 pub(crate) fn title(code: u16) -> &'static [u8]

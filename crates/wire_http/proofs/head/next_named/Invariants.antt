@@ -8,5 +8,6 @@ invariant-loop-left l = record {
   within : All (IsHeaderWithin (length l.bytes)) l.left;
   values : values_in l.bytes l.left l.name ≡ values_in l.bytes l.headers l.name;
 }
+
 abbrev pub decreases-loop-left : goal.decreases-loop-left
 decreases-loop-left l = length l.left
