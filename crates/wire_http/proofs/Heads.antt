@@ -1,5 +1,5 @@
 -- Heads in the first 8,192 bytes, and in all of them.
-use Rattle.std.proofs.Common.{◌≡◌, ℕ, ◌+◌, ◌-◌, ◌<◌, ◌≤◌, List, [], ◌∷◌, ◌++◌, length, take, drop, refl, sym, ap, ◌∙◌, subst, arith, append_assoc, length-append, length-take, map}
+use Rattle.std.proofs.Common.{◌≡◌, ℕ, ◌+◌, ◌-◌, ◌<◌, ◌≤◌, List, ◌++◌, length, take, drop, sym, ap, ◌∙◌, subst, arith, append_assoc, length-append, length-take, map}
 use Rattle.std.proofs.lemmas.List.{take-append-drop, take-append-le, length-map}
 use Rattle.std.proofs.Math.Seq.{take-append-add, drop-append_seam}
 use Rattle.httparse.specs.declared.spans.HeaderSpan.{HeaderSpan}
@@ -7,7 +7,7 @@ use Rattle.httparse.specs.declared.spans.RequestSpans.{RequestSpans}
 use Rattle.httparse.specs.Grammar.{Field, RequestHead, print_request, ReadsRequest, HasNoRequest}
 use Rattle.httparse.specs.Spans.{RequestOverflows, IsRequestWithin, IsRequestAt, span_bytes, header_bytes, name_and_value}
 use Rattle.httparse.proofs.GrammarLemmas.{ReadsRequest-append}
-use Rattle.wire_http.specs.Head.{PlainHead, ReadsHead, HasNoHead, NeverHasHead, plain_head, head_at}
+use Rattle.wire_http.specs.Head.{PlainHead, HasNoHead, NeverHasHead, plain_head, head_at}
 use Rattle.wire_http.specs.Front.{BeginsWithHead}
 
 -- what stands behind the first text of two

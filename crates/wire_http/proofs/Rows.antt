@@ -1,8 +1,8 @@
 -- The definitions tried on worked examples: each computes.
-use Rattle.std.proofs.Common.{◌≡◌, ℕ, Bool, true, false, List, [], ◌∷◌, ◌++◌, None, Some, Result, Ok, Err, codes, refl}
+use Rattle.std.proofs.Common.{◌≡◌, ℕ, true, false, List, [], ◌∷◌, None, Some, Result, Ok, Err, codes, refl}
 use Rattle.std.specs.Fmt.{digits}
 use Rattle.wire_http.specs.Head.{PlainHead}
-use Rattle.wire_http.specs.Fields.{values_named, asks_to_close, key_of, at_least_of}
+use Rattle.wire_http.specs.Fields.{asks_to_close, key_of, at_least_of}
 use Rattle.wire_http.specs.Body.{body_length}
 use Rattle.wire_http.specs.Reply.{title_of, head_text}
 use Rattle.wire_http.specs.ErrorBody.{description_of, error_text}

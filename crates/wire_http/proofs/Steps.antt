@@ -1,5 +1,5 @@
 -- What a head at the front and its body's length say of the bytes.
-use Rattle.std.proofs.Common.{◌≡◌, ℕ, ◌+◌, ◌-◌, ◌<◌, ◌≤◌, Bool, List, [], ◌∷◌, ◌++◌, length, take, drop, Ok, IsFalse, inl, refl, sym, ap, ◌∙◌, arith, append-nil, length-append, length-drop, length-take-le}
+use Rattle.std.proofs.Common.{◌≡◌, ℕ, ◌-◌, ◌<◌, ◌≤◌, Bool, List, [], ◌∷◌, ◌++◌, length, take, drop, Ok, IsFalse, inl, sym, ap, ◌∙◌, arith, append-nil, length-append, length-drop, length-take-le}
 use Rattle.std.proofs.lemmas.List.{take-append-drop, drop-drop}
 use Rattle.std.proofs.Math.Seq.{take-append_seam}
 use Rattle.httparse.specs.Grammar.{RequestHead, print_request}

@@ -1,9 +1,9 @@
 -- The messages of bytes are one list, however the bytes came.
-use Rattle.std.proofs.Common.{◌≡◌, ℕ, ◌<◌, ◌≤◌, Bool, true, false, List, [], ◌∷◌, ◌++◌, length, take, drop, Ok, Err, Result, IsTrue, inl, inr, refl, sym, ap, ◌∙◌, subst, arith, append_assoc, append-nil, length-append}
+use Rattle.std.proofs.Common.{◌≡◌, ℕ, Bool, true, false, List, [], ◌∷◌, ◌++◌, length, take, drop, Ok, Err, Result, IsTrue, inl, inr, refl, sym, ap, ◌∙◌, subst, arith, append_assoc, append-nil, length-append}
 use Rattle.std.proofs.Math.Seq.{take-append_seam, drop-append_seam}
 use Rattle.httparse.specs.Grammar.{RequestHead, print_request, ReadsRequest}
 use Rattle.httparse.proofs.GrammarLemmas.{request_unique, ReadsRequest-append}
-use Rattle.wire_http.specs.Head.{ReadsHead, IsHead, plain_head}
+use Rattle.wire_http.specs.Head.{ReadsHead, plain_head}
 use Rattle.wire_http.specs.Body.{body_length}
 use Rattle.wire_http.specs.Messages.{PlainMessage, BeginsWith, Behind, Ends, Unfinished, Fault, IsBadBody, IsShortBody, IsFault, StandsBehind, AreMessagesOf}
 use Rattle.wire_http.specs.Pieces.{Event, Came, Gave, Leads, came, given}

@@ -1,5 +1,5 @@
 -- How long the body behind a head is (RFC 9112 6.3, RFC 9110 8.6).
-use Rattle.std.specs.Prelude.{ℕ, ◌-◌, ◌^◌, Bool, nat_le, if◌then◌else◌, List, codes, Option, None, Some, Result, Ok, Err}
+use Rattle.std.specs.Prelude.{ℕ, ◌-◌, ◌^◌, Bool, nat_le, if◌then◌else◌, codes, Option, None, Some, Result, Ok, Err}
 use Rattle.std.specs.Str.{bytes_eq}
 use Rattle.addr_text.specs.Reading.{decimal_up_to}
 use Rattle.wire_http.specs.Head.{PlainHead}

@@ -96,8 +96,8 @@ impl Framer {
         self.given = NO_MESSAGE;
         match step {
             Step::Message(message) => self.given = message,
-            Step::More => self.move_to_front(),
-            Step::Bad(_) | Step::End => {}
+            Step::More if at > 0 => self.move_to_front(),
+            Step::More | Step::Bad(_) | Step::End => {}
         }
         step
     }

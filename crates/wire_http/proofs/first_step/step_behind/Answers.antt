@@ -1,4 +1,4 @@
-use Rattle.std.proofs.Common.{ℕ, Result, Ok, subst}
+use Rattle.std.proofs.Common.{ℕ, Result, subst}
 use Rattle.wire_http.specs.Step.{HasHead}
 use Rattle.wire_http.proofs.Steps.{message_found}
 use Rattle.wire_http.proofs.first_step.step_behind.Goals as goal

@@ -1,4 +1,4 @@
-use Rattle.std.proofs.Common.{◌≡◌, ℕ, List, ◌∙◌, subst, ap, sym, Ok, arith}
+use Rattle.std.proofs.Common.{ℕ, List, subst, sym, Ok, arith}
 use Rattle.httparse.specs.declared.Error.{Error}
 use Rattle.httparse.specs.declared.Status.{Status}
 use Rattle.httparse.specs.declared.spans.RequestSpans.{RequestSpans}

@@ -1,6 +1,6 @@
 use Rattle.std.proofs.Common.{◌≡◌, ◌+◌, List, ℕ, ap, ◌∙◌, sym, subst, drop, length, arith, ◌<◌}
 use Rattle.wire_http.specs.declared.message.Step.{Step}
-use Rattle.wire_http.specs.Step.{IsFirst, IsFirstMessage}
+use Rattle.wire_http.specs.Step.{IsFirstMessage}
 use Rattle.wire_http.specs.Messages.{IsUnfinished}
 use Rattle.wire_http.specs.Framer.{Takes, LeavesRoom, framer_room}
 use Rattle.wire_http.proofs.Room.{unfinished_bound}
