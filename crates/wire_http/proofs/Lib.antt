@@ -5,3 +5,4 @@ pub mod Room
 pub mod Taken
 pub mod Unique
 pub mod Rows
+pub mod MessageRows

@@ -1,11 +1,11 @@
 -- The messages of bytes are one list, however the bytes came.
-use Rattle.std.proofs.Common.{◌≡◌, ℕ, Bool, true, false, List, [], ◌∷◌, ◌++◌, length, take, drop, Ok, Err, Result, IsTrue, inl, inr, refl, sym, ap, ◌∙◌, subst, arith, append_assoc, append-nil, length-append}
+use Rattle.std.proofs.Common.{◌≡◌, ◌≢◌, ℕ, Bool, true, false, List, [], ◌∷◌, ◌++◌, length, take, drop, Ok, Err, Result, IsTrue, inl, inr, refl, sym, ap, ◌∙◌, subst, arith, append_assoc, append-nil, length-append}
 use Rattle.std.proofs.Math.Seq.{take-append_seam, drop-append_seam}
 use Rattle.httparse.specs.Grammar.{RequestHead, print_request, ReadsRequest}
 use Rattle.httparse.proofs.GrammarLemmas.{request_unique, ReadsRequest-append}
-use Rattle.wire_http.specs.Head.{ReadsHead, plain_head}
+use Rattle.wire_http.specs.Head.{ReadsHead, NeverHasHead, plain_head}
 use Rattle.wire_http.specs.Body.{body_length}
-use Rattle.wire_http.specs.Messages.{PlainMessage, BeginsWith, Behind, Ends, Unfinished, Fault, IsBadBody, IsShortBody, IsFault, StandsBehind, AreMessagesOf}
+use Rattle.wire_http.specs.Messages.{PlainMessage, BeginsWith, Behind, Ends, Unfinished, Fault, HasBadHead, IsBadBody, IsShortBody, IsFault, StandsBehind, AreMessagesOf}
 use Rattle.wire_http.specs.Pieces.{Event, Came, Gave, Leads, came, given}
 use Rattle.wire_http.proofs.Steps.{nothing_has_no_head}
 
@@ -112,15 +112,20 @@ ended_once : (bytes : List ℕ) (ended : Bool) (y z : Behind) → StandsBehind b
 ended_once bytes true y z x w ended = behind_once bytes y z x w
 ended_once bytes false y z x w ended = absurd (cc)
 
+code_once : (bytes : List ℕ) (ended : Bool) (y z : Behind) → StandsBehind bytes ended y → StandsBehind bytes ended z → (c d : ℕ) → y ≡ Fault c → z ≡ Fault d → c ≡ d
+code_once bytes ended y z x w c d e f =
+    fault_once bytes ended c d (subst (StandsBehind bytes ended) e x) (subst (StandsBehind bytes ended) f w)
+
 pub messages_once : (bytes : List ℕ) (ended : Bool) (ms ns : List PlainMessage) (y z : Behind)
-    → AreMessagesOf bytes ended ms y → AreMessagesOf bytes ended ns z → (ms ≡ ns) × (IsTrue ended → y ≡ z)
-messages_once bytes ended [] [] y z x w = (refl, ended_once bytes ended y z x w)
+    → AreMessagesOf bytes ended ms y → AreMessagesOf bytes ended ns z
+    → (ms ≡ ns) × (IsTrue ended → y ≡ z) × ((c d : ℕ) → y ≡ Fault c → z ≡ Fault d → c ≡ d)
+messages_once bytes ended [] [] y z x w = (refl, ended_once bytes ended y z x w, code_once bytes ended y z x w)
 messages_once bytes ended [] (n ∷ ns) y z x w = absurd (nothing_else bytes ended n w.0 y w.1 x)
 messages_once bytes ended (m ∷ ms) [] y z x w = absurd (nothing_else bytes ended m x.0 z x.1 w)
 messages_once bytes ended (m ∷ ms) (n ∷ ns) y z x w =
     let first = begins_once bytes m n x.0 w.0 x.1 w.1 in
     let more = messages_once w.0 ended ms ns y z (subst (λ (b : List ℕ). AreMessagesOf b ended ms y) first.1 x.2) w.2 in
-    (ap (λ k. k ∷ ms) first.0 ∙ ap (λ ks. n ∷ ks) more.0, more.1)
+    (ap (λ k. k ∷ ms) first.0 ∙ ap (λ ks. n ∷ ks) more.0, more.1, more.2)
 
 -- bytes that come behind a message change nothing of it
 begins_longer : (bytes more : List ℕ) (m : PlainMessage) (rest : List ℕ) → BeginsWith bytes m rest → BeginsWith (bytes ++ more) m (rest ++ more)
@@ -141,3 +146,31 @@ pieces_lead (Gave m ∷ events) before left ended messages behind x w = (
   begins_longer before (came events) m x.0 x.1,
   pieces_lead events x.0 left ended messages behind x.2 w,
 )
+
+-- ---- faults while the input is open
+
+longer_is_something : (bytes more : List ℕ) → bytes ≢ [] → bytes ++ more ≢ []
+longer_is_something [] more some = absurd (some refl)
+longer_is_something (b ∷ bytes) more some = λ e. absurd (cc)
+
+never_longer : (bytes more : List ℕ) → NeverHasHead bytes → NeverHasHead (bytes ++ more)
+never_longer bytes more never others h rest x =
+    never (more ++ others) h rest (subst (λ (b : List ℕ). ReadsHead b h rest) (append_assoc bytes more others) x)
+
+bad_head_stays : (bytes more : List ℕ) (ended : Bool) → HasBadHead bytes false → HasBadHead (bytes ++ more) ended
+bad_head_stays bytes more ended x = elim x.for_good [
+  | inl over ↦ let no : false ≡ true = over in absurd (cc)
+  | inr never ↦ record { some = longer_is_something bytes more x.some; none = never more; for_good = inr (never_longer bytes more never) }
+]
+
+bad_body_stays : (r : Result ℕ ℕ) (rest more : List ℕ) (ended : Bool) (code : ℕ) → IsBadBody r rest false code → IsBadBody r (rest ++ more) ended code
+bad_body_stays (Ok size) rest more ended code x = let no : false ≡ true = x.1 in absurd (cc)
+bad_body_stays (Err refused) rest more ended code x = x
+
+head_stays : (bytes more : List ℕ) (h : RequestHead) (rest : List ℕ) → ReadsHead bytes h rest → ReadsHead (bytes ++ more) h (rest ++ more)
+head_stays bytes more h rest x = record { reads = ReadsRequest-append bytes h rest more x.reads; short = x.short; lines = x.lines }
+
+pub fault_stays : (bytes more : List ℕ) (ended : Bool) (code : ℕ) → IsFault bytes false code → IsFault (bytes ++ more) ended code
+fault_stays bytes more ended code (inl x) = inl (bad_head_stays bytes more ended x.0, x.1)
+fault_stays bytes more ended code (inr x) =
+    inr (x.0, x.1 ++ more, head_stays bytes more x.0 x.1 x.2, bad_body_stays (body_length (plain_head x.0)) x.1 more ended code x.3)

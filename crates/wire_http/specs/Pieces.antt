@@ -1,6 +1,6 @@
 -- How a framer's bytes come and go, and that the messages don't depend on it.
-use Rattle.std.specs.Prelude.{◌≡◌, Bool, ℕ, List, [], ◌∷◌, ◌++◌, IsTrue}
-use Rattle.wire_http.specs.Messages.{PlainMessage, BeginsWith, Behind, AreMessagesOf}
+use Rattle.std.specs.Prelude.{◌≡◌, Bool, false, ℕ, List, [], ◌∷◌, ◌++◌, IsTrue}
+use Rattle.wire_http.specs.Messages.{PlainMessage, BeginsWith, Behind, Fault, IsFault, AreMessagesOf}
 
 -- bytes came behind those that were there, or the message at the front was given
 pub data Event : Type 0 where
@@ -25,11 +25,17 @@ given [] = []
 given (Came piece ∷ events) = given events
 given (Gave m ∷ events) = m ∷ given events
 
--- the messages of bytes are one list, and of bytes that have ended one thing stands behind them
+-- the messages of bytes are one list; of bytes that have ended one thing stands behind them, and of others at most one fault
 abbrev pub MessagesAreUnique : Type 0
 MessagesAreUnique =
     (bytes : List ℕ) (ended : Bool) (ms ns : List PlainMessage) (y z : Behind)
-    → AreMessagesOf bytes ended ms y → AreMessagesOf bytes ended ns z → (ms ≡ ns) × (IsTrue ended → y ≡ z)
+    → AreMessagesOf bytes ended ms y → AreMessagesOf bytes ended ns z
+    → (ms ≡ ns) × (IsTrue ended → y ≡ z) × ((c d : ℕ) → y ≡ Fault c → z ≡ Fault d → c ≡ d)
+
+-- a fault stays, whatever comes behind it, and whether or not the input ends
+abbrev pub FaultsStay : Type 0
+FaultsStay =
+    (bytes more : List ℕ) (ended : Bool) (code : ℕ) → IsFault bytes false code → IsFault (bytes ++ more) ended code
 
 -- the messages that were given, with those of what is left, are the messages of all that came
 abbrev pub PiecesDoNotMatter : Type 0

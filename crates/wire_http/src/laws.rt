@@ -1,7 +1,7 @@
 //! Laws over the definitions.
-ghost use Rattle.wire_http.specs.Pieces.{MessagesAreUnique, PiecesDoNotMatter};
+ghost use Rattle.wire_http.specs.Pieces.{FaultsStay, MessagesAreUnique, PiecesDoNotMatter};
 
-/// The messages of bytes, and what stands behind them once the bytes have ended, are the only ones.
+/// The messages of bytes, what stands behind them once the bytes have ended, and the code of a fault are the only ones.
 pub fn messages_are_unique()
     ensures { MessagesAreUnique }
 {}
@@ -9,4 +9,9 @@ pub fn messages_are_unique()
 /// However bytes are cut, and whenever messages are taken in between, the messages are those of all the bytes.
 pub fn pieces_do_not_matter()
     ensures { PiecesDoNotMatter }
+{}
+
+/// A fault that stands behind the messages while the input is open stands there whatever comes.
+pub fn faults_stay()
+    ensures { FaultsStay }
 {}

@@ -16,7 +16,7 @@ mod tests;
 
 pub use framer::Framer;
 pub use head::Head;
-pub use laws::{messages_are_unique, pieces_do_not_matter};
+pub use laws::{faults_stay, messages_are_unique, pieces_do_not_matter};
 pub use message::{ConnEnd, Message, Step};
 pub use reply::{ReplyHead, is_reply_code, write_head};
 pub use reply_error::write_error;
