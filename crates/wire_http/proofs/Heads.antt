@@ -1,10 +1,13 @@
 -- Heads in the first 8,192 bytes, and in all of them.
-use Rattle.std.proofs.Common.{◌≡◌, ℕ, ◌+◌, ◌-◌, ◌<◌, ◌≤◌, List, ◌++◌, length, take, drop, sym, ap, ◌∙◌, subst, arith, append_assoc, length-append, length-take, map}
-use Rattle.std.proofs.lemmas.List.{take-append-drop, take-append-le, length-map}
+use Rattle.std.proofs.Common.{◌≡◌, ℕ, Bool, true, false, ◌==◌, ◌||◌, [], ◌∷◌, refl, inl, inr, ◌+◌, ◌-◌, ◌<◌, ◌≤◌, List, ◌++◌, length, take, drop, sym, ap, ◌∙◌, subst, arith, append_assoc, length-append, length-take, map}
+use Rattle.std.proofs.lemmas.Bool.{cases_lt}
+use Rattle.std.proofs.lemmas.List.{take-append-drop, take-append-le, drop-append-le, length-map}
+use Rattle.std.specs.List.{list_any, flat_map}
 use Rattle.std.proofs.Math.Seq.{take-append-add, drop-append_seam}
 use Rattle.httparse.specs.declared.spans.HeaderSpan.{HeaderSpan}
 use Rattle.httparse.specs.declared.spans.RequestSpans.{RequestSpans}
-use Rattle.httparse.specs.Grammar.{Field, RequestHead, print_request, ReadsRequest, HasNoRequest}
+use Rattle.httparse.specs.Grammar.{Field, LineEnd, crlf, lf, print_end, print_blank, print_version, print_field, RequestHead, print_request, ReadsRequest, HasNoRequest}
+use Rattle.httparse.specs.Ascii.{space}
 use Rattle.httparse.specs.Spans.{RequestOverflows, IsRequestWithin, IsRequestAt, span_bytes, header_bytes, name_and_value}
 use Rattle.httparse.proofs.GrammarLemmas.{ReadsRequest-append}
 use Rattle.wire_http.specs.Head.{PlainHead, HasNoHead, NeverHasHead, plain_head, head_at}
@@ -87,3 +90,45 @@ head_found bytes front headers spans h e room within x =
       size_is = x.len;
       head_is = head_says front headers spans h x;
     }
+
+-- ---- a head ends with a line
+
+ends_with_line : (last : LineEnd) → (q : List ℕ) × (print_end last ≡ q ++ 10 ∷ [])
+ends_with_line crlf = (13 ∷ [], refl)
+ends_with_line lf = ([], refl)
+
+head_ends : (h : RequestHead) → (q : List ℕ) × (print_request h ≡ q ++ 10 ∷ [])
+unfolding print_request
+head_ends h =
+    let end = ends_with_line h.last in
+    let front = print_blank h.blank ++ h.method ++ space ∷ h.target ++ space ∷ print_version h.minor ++ print_end h.line_end in
+    let fields = flat_map print_field h.fields in (
+      front ++ (fields ++ end.0),
+      ap (λ t. front ++ (fields ++ t)) end.1 ∙ ap (λ t. front ++ t) (sym (append_assoc fields end.0 (10 ∷ []))) ∙ sym (append_assoc front (fields ++ end.0) (10 ∷ [])),
+    )
+
+-- some byte behind others is found
+found_behind : (xs rest : List ℕ) → list_any (λ b. b == 10) (xs ++ 10 ∷ rest) ≡ true
+found_behind [] rest = refl
+found_behind (x ∷ xs) rest = or_true (x == 10) _ (found_behind xs rest)
+  where
+    or_true : (a b : Bool) → b ≡ true → (a || b) ≡ true
+    or_true true b e = refl
+    or_true false b e = e
+
+line_end_behind : (bytes p r q : List ℕ) (seen : ℕ) → bytes ≡ p ++ r → p ≡ q ++ 10 ∷ [] → seen < length p → list_any (λ b. b == 10) (drop seen bytes) ≡ true
+line_end_behind bytes p r q seen e ends early =
+    let short : seen ≤ length q = omega (arith, ap length ends, length-append q (10 ∷ [])) in
+    let same : bytes ≡ q ++ 10 ∷ r = e ∙ ap (λ t. t ++ r) ends ∙ append_assoc q (10 ∷ []) r in
+    ap (λ t. list_any (λ b. b == 10) (drop seen t)) same ∙ ap (list_any (λ b. b == 10)) (drop-append-le seen q (10 ∷ r) short) ∙ found_behind (drop seen q) r
+
+-- where no line ends behind bytes without a head, there is none
+pub none_without_line_end : (bytes : List ℕ) (seen : ℕ) → HasNoHead (take seen bytes) → list_any (λ b. b == 10) (drop seen bytes) ≡ false → HasNoHead bytes
+none_without_line_end bytes seen none lines h rest x =
+    elim (cases_lt seen (length (print_request h))) [
+      | inl long ↦
+          let found : list_any (λ b. b == 10) (drop seen bytes) ≡ true = line_end_behind bytes (print_request h) rest (head_ends h).0 seen x.reads.1 (head_ends h).1 long in
+          let both : false ≡ true = sym lines ∙ found in absurd (cc)
+      | inr short ↦ none h (take (seen - length (print_request h)) rest)
+          (record { reads = (x.reads.0, front_of seen bytes (print_request h) rest x.reads.1 short); short = x.short; lines = x.lines })
+    ]

@@ -1,12 +1,11 @@
 -- The definition of messages tried on a worked example: a GET whose lines end in LF alone, and a POST with a body.
-use Rattle.std.proofs.Common.{◌≡◌, ℕ, ◌<◌, ◌≤◌, true, false, List, [], ◌∷◌, ◌++◌, Ok, codes, inr, refl, arith, length}
+use Rattle.std.proofs.Common.{true, false, [], ◌∷◌, codes, inr, refl, arith}
 use Rattle.std.specs.Fmt.{digits}
 use Rattle.std.proofs.lemmas.List.Elements.{All-nil, All-cons}
 use Rattle.std.proofs.lemmas.List.Sums.{AllPass-from_list_all}
-use Rattle.httparse.specs.Grammar.{Field, IsField, RequestHead, IsRequestHead, crlf, lf, is_token_byte, is_uri_byte, is_value_byte, print_request, trim_ows}
-use Rattle.wire_http.specs.Head.{ReadsHead, IsHead, plain_head}
-use Rattle.wire_http.specs.Body.{body_length}
-use Rattle.wire_http.specs.Messages.{PlainMessage, IsMessage, BeginsWith, Ends, Fault, AreMessagesOf}
+use Rattle.httparse.specs.Grammar.{Field, IsField, RequestHead, crlf, lf, is_token_byte, is_uri_byte, is_value_byte, print_request, trim_ows}
+use Rattle.wire_http.specs.Head.{ReadsHead, IsHead}
+use Rattle.wire_http.specs.Messages.{PlainMessage, IsMessage, Ends, Fault, AreMessagesOf}
 
 get_head : RequestHead
 get_head = record { blank = []; method = codes "GET"; target = codes "/"; minor = 1; line_end = lf; fields = []; last = lf }

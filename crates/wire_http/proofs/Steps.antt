@@ -1,12 +1,14 @@
 -- What a head at the front and its body's length say of the bytes.
-use Rattle.std.proofs.Common.{◌≡◌, ℕ, ◌-◌, ◌<◌, ◌≤◌, Bool, List, [], ◌∷◌, ◌++◌, length, take, drop, Ok, IsFalse, inl, sym, ap, ◌∙◌, arith, append-nil, length-append, length-drop, length-take-le}
-use Rattle.std.proofs.lemmas.List.{take-append-drop, drop-drop}
-use Rattle.std.proofs.Math.Seq.{take-append_seam}
+use Rattle.std.proofs.Common.{◌≡◌, ℕ, ◌-◌, ◌<◌, ◌≤◌, Bool, List, [], ◌∷◌, ◌++◌, length, take, drop, Ok, IsFalse, inl, sym, ap, ◌∙◌, subst, false, ◌==◌, refl, arith, append-nil, length-append, length-drop, length-take-le}
+use Rattle.std.proofs.lemmas.List.{take-append-drop, take-append-le, drop-drop}
+use Rattle.std.specs.List.{list_any}
+use Rattle.std.proofs.Math.Seq.{take-append_seam, take-length}
 use Rattle.httparse.specs.Grammar.{RequestHead, print_request}
 use Rattle.httparse.proofs.GrammarLemmas.{request_unique}
-use Rattle.wire_http.specs.Head.{PlainHead, ReadsHead, IsHead, HasNoHead}
+use Rattle.wire_http.specs.Head.{PlainHead, ReadsHead, IsHead, HasNoHead, IsSearched}
 use Rattle.wire_http.specs.Front.{BeginsWithHead}
 use Rattle.wire_http.specs.Messages.{IsUnfinished}
+use Rattle.wire_http.proofs.Heads.{none_without_line_end}
 use Rattle.wire_http.specs.Step.{IsFirstMessage, HasHead}
 
 -- a head has a byte at least
@@ -61,3 +63,28 @@ whole_head bytes head size h k x whole =
     let rest : drop size bytes ≡ [] = (request_unique bytes k h (drop size bytes) [] x.reads.reads whole.reads).1 in
     let within = head_within bytes k (drop size bytes) x.reads in
     omega (arith, x.size_is, within, ap length rest, length-drop size bytes)
+
+-- of no byte it is known that none has a head, and of all where there is none
+pub unsearched : (bytes : List ℕ) → IsSearched 0 bytes
+unsearched bytes = record { within = omega arith; none = nothing_has_no_head }
+
+pub all_searched : (bytes : List ℕ) → HasNoHead bytes → IsSearched (length bytes) bytes
+all_searched bytes none = record { within = omega arith; none = subst (λ (b : List ℕ). HasNoHead b) (sym (take-length bytes)) none }
+
+-- what comes behind them changes nothing of it
+pub still_searched : (seen : ℕ) (bytes more : List ℕ) → IsSearched seen bytes → IsSearched seen (bytes ++ more)
+still_searched seen bytes more x = record {
+  within = omega (arith, x.within, length-append bytes more);
+  none = subst (λ (b : List ℕ). HasNoHead b) (sym (take-append-le seen bytes more x.within)) x.none;
+}
+
+-- without a line's end behind them no head has come
+pub no_line_yet : (bytes : List ℕ) (seen : ℕ) (ended : Bool) → IsSearched seen bytes → length bytes < 8192 → list_any (λ b. b == 10) (drop seen bytes) ≡ false → IsFalse ended
+    → IsUnfinished bytes ended × IsSearched (length bytes) bytes
+no_line_yet bytes seen ended x short lines open_ended =
+    let none = none_without_line_end bytes seen x.none lines in
+    (record { open_ended = open_ended; part = inl (none, short) }, all_searched bytes none)
+
+pub empty_bytes : (bytes : List ℕ) → length bytes ≡ 0 → bytes ≡ []
+empty_bytes [] empty = refl
+empty_bytes (b ∷ bytes) empty = absurd (omega arith)

@@ -1,5 +1,5 @@
 -- What a step of the framer leaves.
-use Rattle.std.proofs.Common.{◌≡◌, ℕ, ◌+◌, List, drop, sym, ap, ◌∙◌, subst, arith}
+use Rattle.std.proofs.Common.{◌≡◌, ℕ, ◌+◌, ◌≤◌, List, length, drop, length-take, length-drop, sym, ap, ◌∙◌, subst, arith}
 use Rattle.std.proofs.lemmas.List.{drop-drop}
 use Rattle.wire_http.specs.declared.message.Message.{Message}
 use Rattle.wire_http.specs.Step.{IsFirstMessage, message_at, rest_behind}
@@ -22,3 +22,9 @@ gives_message items at given m old e first =
       given = ap (λ b. message_at b m) same;
       rest = ap (λ b. rest_behind b m) same;
     }
+
+-- a message at the front is no longer than what is there
+pub message_within : (items : List ℕ) (at : ℕ) (m : Message) → at ≤ length items → IsFirstMessage m (drop at items) → at + m.head + m.body ≤ length items
+message_within items at m within x =
+    let left = drop at items in
+    omega (arith, x.lengths.head, x.lengths.body, length-take m.head left, length-take m.body (drop m.head left), length-drop m.head left, length-drop at items)

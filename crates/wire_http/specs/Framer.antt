@@ -3,6 +3,7 @@ use Rattle.std.specs.Prelude.{◌≡◌, ℕ, ◌+◌, ◌-◌, ◌<◌, ◌≤�
 use Rattle.wire_http.specs.declared.message.Message.{Message}
 use Rattle.wire_http.specs.declared.message.Step.{Step}
 use Rattle.wire_http.specs.declared.message.Step.TheVariants as step
+use Rattle.wire_http.specs.Head.{IsSearched}
 use Rattle.wire_http.specs.Messages.{PlainMessage, Ends, Unfinished, Fault, StandsBehind}
 use Rattle.wire_http.specs.Step.{message_at, rest_behind, IsFirstMessage}
 
@@ -53,7 +54,9 @@ framer_of items at given = record {
   spare = framer_room - length items;
 }
 
-pub record IsFramer (items : List ℕ) (at : ℕ) (given : Message) (capacity : ℕ) : Type 0 where
+-- the buffer has the last message and what is behind it, of which so many bytes are known to have no head
+pub record IsFramer (items : List ℕ) (at : ℕ) (given : Message) (seen capacity : ℕ) : Type 0 where
   pub within : at + given.head + given.body ≤ length items
   pub fits : length items ≤ framer_room
   pub room : framer_room ≤ capacity
+  pub searched : IsSearched seen (rest_behind (drop at items) given)

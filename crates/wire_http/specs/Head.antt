@@ -24,6 +24,11 @@ HasNoHead bytes = (h : RequestHead) (rest : List ℕ) → ¬ (ReadsHead bytes h 
 abbrev pub NeverHasHead : List ℕ → Type 0
 NeverHasHead bytes = (more : List ℕ) → HasNoHead (bytes ++ more)
 
+-- the first so many of the bytes have no head at their front
+pub record IsSearched (seen : ℕ) (bytes : List ℕ) : Type 0 where
+  pub within : seen ≤ length bytes
+  pub none : HasNoHead (take seen bytes)
+
 -- what a head says: the method, the target, the minor version of HTTP/1, and of each header line the name and the value
 -- without the white space around it
 pub record PlainHead : Type 0 where

@@ -6,6 +6,7 @@ pub mod Body
 pub mod Messages
 pub mod Pieces
 pub mod Step
+pub mod Found
 pub mod Framer
 pub mod Reply
 pub mod ErrorBody

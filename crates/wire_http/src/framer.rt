@@ -19,6 +19,8 @@ pub struct Framer {
     // Where the message that was given last stands, and before which all is used up.
     at: usize,
     given: Message,
+    // How many of the bytes behind it are known to have no head at their front.
+    seen: usize,
 }
 
 impl Model for Framer {
@@ -29,7 +31,7 @@ impl Model for Framer {
 
     ghost view = { λ f. framer_of f.buffer.items f.at f.given };
 
-    ghost invariant = { λ f. IsFramer f.buffer.items f.at f.given (vec_capacity f.buffer) };
+    ghost invariant = { λ f. IsFramer f.buffer.items f.at f.given f.seen (vec_capacity f.buffer) };
 }
 
 /// The bytes from there on.
@@ -51,6 +53,7 @@ impl Framer {
             buffer: Vec::with_capacity(alloc, ROOM)?,
             at: 0,
             given: NO_MESSAGE,
+            seen: 0,
         })
     }
 
@@ -61,6 +64,7 @@ impl Framer {
         self.buffer.clear();
         self.at = 0;
         self.given = NO_MESSAGE;
+        self.seen = 0;
     }
 
     /// How many bytes may be pushed.
@@ -91,15 +95,19 @@ impl Framer {
         ensures spare { LeavesRoom result self.old self.new }
     {
         let at = self.at + self.given.head + self.given.body;
-        let step = first_step(from_there(&self.buffer, at), ended);
+        let found = first_step(from_there(&self.buffer, at), self.seen, ended);
         self.at = at;
         self.given = NO_MESSAGE;
-        match step {
-            Step::Message(message) => self.given = message,
+        self.seen = found.seen;
+        match found.step {
+            Step::Message(message) => {
+                self.given = message;
+                self.seen = 0;
+            }
             Step::More if at > 0 => self.move_to_front(),
             Step::More | Step::Bad(_) | Step::End => {}
         }
-        step
+        found.step
     }
 
     /// Moves what isn't taken yet to the front.
