@@ -1,0 +1,12 @@
+pub mod Head
+pub mod Fields
+pub mod Occurrence
+pub mod Front
+pub mod Body
+pub mod Messages
+pub mod Pieces
+pub mod Step
+pub mod Found
+pub mod Framer
+pub mod Reply
+pub mod ErrorBody
