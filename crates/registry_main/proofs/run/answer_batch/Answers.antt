@@ -2,6 +2,7 @@ use Rattle.std.proofs.Common.{Option, List, ℕ, subst, ap, Err}
 use Rattle.std.specs.Io.KnownBytes.{Keeps}
 use Rattle.registry_main.specs.Session.{PlainSession}
 use Rattle.registry_main.specs.Batch.{BeginsWith, IsUpToDate, known}
+use Rattle.registry_main.proofs.Ends.{done_not_read, read_not_done, write_not_done, write_not_read}
 use Rattle.registry_main.proofs.Written.{batch_replies, kept_begins}
 use Rattle.registry_main.proofs.run.answer_batch.Goals as goal
 
@@ -9,7 +10,7 @@ pub returns-in-Ok-answer_script-clause-answered : goal.returns-in-Ok-answer_scri
 returns-in-Ok-answer_script-clause-answered g c =
     let kept = subst (λ (text : Option (List ℕ)). Keeps text (g.K.Sink.written c.answer_script.new.out))
     (batch_replies _ _ _ _ _ c.in-Ok.ensures) c.in-Ok-answer_script.ensures.ok in
-    (c.day.result, c.day.ensures, record { front = kept_begins _ _ kept; done = λ _. (kept, c.in-Ok-answer_script.ensures.end); read = λ e. cc })
+    (c.day.result, c.day.ensures, record { front = kept_begins _ _ kept; done = λ _. (kept, c.in-Ok-answer_script.ensures.end); read = λ e. absurd (done_not_read e) })
 
 -- The session holds books of pages: `search` gets lost in what is dropped with it.
 
@@ -20,7 +21,7 @@ returns-in-Err-Read-clause-answered g c = (
   record {
     front = subst (λ (text : Option (List ℕ)). BeginsWith text (g.K.Sink.written c.answer_script.new.out))
         (batch_replies _ _ _ _ _ c.in-Ok.ensures) c.in-Err-Read.ensures.err;
-    done = λ e. cc;
+    done = λ e. absurd (read_not_done e);
     read = λ e. subst (λ (s : PlainSession). IsUpToDate s
         (known (g.T.Source.taken c.args.script.now) (g.T.Source.left c.args.script.now) (g.K.Sink.written c.args.out.now))
         (known (g.T.Source.taken c.answer_script.new.script) (g.T.Source.left c.answer_script.new.script) (g.K.Sink.written c.answer_script.new.out)))
@@ -38,8 +39,8 @@ returns-clause-answered g c = (
   record {
     front = subst (λ (text : Option (List ℕ)). BeginsWith text (g.K.Sink.written c.answer_script.new.out))
         (batch_replies _ _ _ _ _ c.in-Ok.ensures) c.in-Err-Write.ensures.err;
-    done = λ e. cc;
-    read = λ e. cc;
+    done = λ e. absurd (write_not_done e);
+    read = λ e. absurd (write_not_read e);
   },
 )
 
