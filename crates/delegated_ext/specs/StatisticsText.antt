@@ -1,6 +1,6 @@
 -- The text of the statistics file: the version line, three summary lines and the records, each ended by LF (RIR statistics
 -- exchange format, version 2, with the status and the opaque id of the NRO's extended reports).
-use Rattle.std.specs.Prelude.{ℕ, zero, suc, ◌+◌, nat_le, if◌then◌else◌, List, [], ◌++◌, Option, None, Some, codes, decimal, length, slice_get}
+use Rattle.std.specs.Prelude.{ℕ, zero, suc, ◌+◌, nat_le, if◌then◌else◌, List, [], ◌++◌, Option, None, codes, decimal, length, slice_get}
 use Rattle.std.specs.List.{flat_map}
 use Rattle.std.specs.Option.{option_map_or, option_and_then}
 use Rattle.num_range.specs.declared.space.Space.{Space}

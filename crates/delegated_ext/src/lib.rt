@@ -2,6 +2,7 @@
 //! reports.
 #![tactic(auto)]
 
+pub mod laws;
 mod record_line;
 
 pub use record_line::RecordLine;
