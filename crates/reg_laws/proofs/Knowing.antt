@@ -25,9 +25,9 @@ none_of : (o : Option ℕ) → is_some o ≡ false → o ≡ None
 none_of None e = refl
 none_of (Some n) e = absurd (both_ways true e refl)
 
-some_of : (o : Option ℕ) → is_some o ≡ true → IsSome o
+pub some_of : {A : Type 0} (o : Option A) → is_some o ≡ true → IsSome o
 some_of None e = absurd (both_ways false refl e)
-some_of (Some n) e = refl
+some_of (Some x) e = refl
 
 pub new_handle : (r : Register) (e : PlainEntry) (holder : Holder) → IsNextEntry r e → e.request ≡ AddHolder holder
     → holder_number r.holders holder.handle ≡ None

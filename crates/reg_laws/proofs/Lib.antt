@@ -24,3 +24,6 @@ pub mod Paints
 pub mod Shares
 pub mod HoldingFacts
 pub mod Knowing
+pub mod Enclosing
+pub mod Fitting
+pub mod LookedUp

@@ -56,7 +56,7 @@ length_above r (p ∷ ps) =
     (λ e. omega arith)
     (λ e. omega arith)
 
-above_low : (low : ℕ) (ps : List Piece) (x : ℕ) (p : Piece) → RisesFrom low ps → piece_at ps x ≡ Some p → low ≤ p.range.first
+pub above_low : (low : ℕ) (ps : List Piece) (x : ℕ) (p : Piece) → RisesFrom low ps → piece_at ps x ≡ Some p → low ≤ p.range.first
 above_low low [] x p rises e = absurd (none-some p e)
 above_low low (q ∷ qs) x p rises e =
     elim (cases_Bool (piece_holds q x)) [

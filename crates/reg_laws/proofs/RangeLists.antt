@@ -159,7 +159,7 @@ pub apart_from : {T : Type 0} (p : PlainRange × T) (ps : List (PlainRange × T)
 apart_from p [] h rises = h
 apart_from p (q ∷ ps) h rises = (h, rises.0, apart_from q ps rises.1 rises.2)
 
-apart_rest : {T : Type 0} (p : PlainRange × T) (ps : List (PlainRange × T)) → AreApart (p ∷ ps) → AreApart ps
+pub apart_rest : {T : Type 0} (p : PlainRange × T) (ps : List (PlainRange × T)) → AreApart (p ∷ ps) → AreApart ps
 apart_rest p [] h = tt
 apart_rest p (q ∷ ps) h = h.2
 
@@ -167,7 +167,7 @@ pub ranges_of_apart : {T : Type 0} (ps : List (PlainRange × T)) → AreApart ps
 ranges_of_apart [] h = tt
 ranges_of_apart (p ∷ ps) h = ((apart_parts p ps h).0, ranges_of_apart ps (apart_rest p ps h))
 
-rises_from_before : {T : Type 0} (q p : PlainRange) (ps : List (PlainRange × T)) → IsBelow q p → IsRange p → RisesAfter p ps → RisesAfter q ps
+pub rises_from_before : {T : Type 0} (q p : PlainRange) (ps : List (PlainRange × T)) → IsBelow q p → IsRange p → RisesAfter p ps → RisesAfter q ps
 rises_from_before q p [] below range h = tt
 rises_from_before q p (s ∷ ss) below range h = (below_through q p s.0 below range.0 h.0, h.1, h.2)
 

@@ -49,10 +49,10 @@ each_of_reverses r (s ∷ ss) h = (h.0, each_of_reverses r ss h.1)
 -- ---- a range inside one piece
 
 -- the range lies inside one piece of such a status
-abbrev IsInside : Register → PlainRange → (Status → Type 0) → Type 0
+abbrev pub IsInside : Register → PlainRange → (Status → Type 0) → Type 0
 IsInside r range P = IsSomeAnd (piece_round r range) (λ p. HasRange range p × P p.card.status)
 
-some_and : {A : Type 0} (o : Option A) (P : A → Type 0) → IsSomeAnd o P → (x : A) × (o ≡ Some x) × P x
+pub some_and : {A : Type 0} (o : Option A) (P : A → Type 0) → IsSomeAnd o P → (x : A) × (o ≡ Some x) × P x
 some_and None P h = absurd h
 some_and (Some x) P h = (x, refl, h)
 
@@ -77,6 +77,12 @@ inside_by_rules r range accepts P means valid pooled one status =
     subst (λ o. IsSomeAnd o (λ q. HasRange range q × P q.card.status)) (sym found.1)
     (inside, means p.card.status (right_status r (first_number range) accepts p status found.1))
 
+-- what they say of one that is sub-assigned
+pub inside_allocated : (r : Register) (range : PlainRange) → is_range range ≡ true → outside_pool r range ≡ None → not_in_one_piece r range ≡ None
+    → wrong_status r (first_number range) (is_status Allocated) ≡ None → IsInside r range (λ status. status ≡ Allocated)
+inside_allocated r range valid pooled one status =
+    inside_by_rules r range (is_status Allocated) (λ status. status ≡ Allocated) (λ status e. same_status-true status Allocated e) valid pooled one status
+
 -- ---- what is touched
 
 none_inside : (r : Register) (range : PlainRange) → has_subs r range ≡ None → NoneIs (λ s. lies_inside s.0 range) r.subs
@@ -88,7 +94,7 @@ none_inside r range e =
 none_straddling : {T : Type 0} (rs : List (PlainRange × T)) (at : PlainNumber) → straddling rs at ≡ None → NoneIs (λ s. straddles at s.0) rs
 none_straddling rs at e = none_found (λ s. straddles at s.0) rs (map_none (λ s. s.0) (find (λ s. straddles at s.0) rs) e)
 
-unstraddled : (r : Register) (at : PlainNumber) → straddled r at ≡ None → (straddling r.subs at ≡ None) × (straddling r.reverses at ≡ None)
+pub unstraddled : (r : Register) (at : PlainNumber) → straddled r at ≡ None → (straddling r.subs at ≡ None) × (straddling r.reverses at ≡ None)
 unstraddled r at e =
     or_none (straddling r.subs at) (straddling r.reverses at) (map_none (λ range. Straddled range) (option_or (straddling r.subs at) (straddling r.reverses at)) e)
 
@@ -132,7 +138,7 @@ subs_in r s (SubAssign range handle) day valid early keeps more later dated unto
     let b = or_none (not_in_one_piece r range) _ a.1 in
     let c = or_none (wrong_status r (first_number range) (is_status Allocated)) _ b.1 in
     let d = or_none (unknown_holder r handle) _ c.1 in
-    let inside = inside_by_rules r range (is_status Allocated) (λ status. status ≡ Allocated) (λ status e. same_status-true status Allocated e) valid a.0 b.0 c.0 in
+    let inside = inside_allocated r range valid a.0 b.0 c.0 in
     with_new_sub s r.subs range day (holder_number r.holders handle)
     (all_subs_moved r s (SubAssign range handle) keeps more later untouched apart h)
     (inside_moved r s (touches (SubAssign range handle)) range (λ status. status ≡ Allocated) (λ status e. ap is_delegated e) keeps (range_valid range valid).0 refl inside)

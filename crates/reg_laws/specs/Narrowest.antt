@@ -1,7 +1,8 @@
 -- The narrowest registration round a range, said of members of lists (RFC 9082 3.1.1).
-use Rattle.std.specs.Prelude.{◌≡◌, ◌≤◌, Bool, true, false, Contains, Option, None, Some}
+use Rattle.std.specs.Prelude.{◌≡◌, ◌≤◌, Bool, true, false, ◌&&◌, if◌then◌else◌, Contains, Option, None, Some}
 use Rattle.num_range.specs.Range.{PlainRange}
 use Rattle.reg_entry.specs.declared.piece.Piece.{Piece}
+use Rattle.reg_entry.specs.declared.sub_card.SubCard.{SubCard}
 use Rattle.reg_entry.specs.declared.found.Found.{Found}
 use Rattle.reg_entry.specs.declared.found.Found.TheVariants.{Piece as ThePiece, Sub}
 use Rattle.reg_entry.specs.Card.{is_delegated}
@@ -29,3 +30,12 @@ IsNoWider f g = (found_size f ≤ found_size g) × (found_size f ≡ found_size 
 abbrev pub IsNarrowest : Register → PlainRange → Option Found → Type 0
 IsNarrowest r range None = (f : Found) → IsRound r range f → ⊥
 IsNarrowest r range (Some f) = IsRound r range f × ((g : Found) → IsRound r range g → IsNoWider f g)
+
+-- ---- looked up
+
+-- what is found of the sub that the range lies inside, and of the piece that holds the range's first number
+abbrev pub looked_up : PlainRange → Option (PlainRange × SubCard) → Option Piece → Option Found
+looked_up range (Some s) (Some p) = Some (Sub s.0 s.1 p.range)
+looked_up range (Some s) None = None
+looked_up range None (Some p) = if is_delegated p.card.status && lies_inside range p.range then Some (ThePiece p) else None
+looked_up range None None = None
