@@ -24,3 +24,5 @@ pub mod Paints
 pub mod Shares
 pub mod HoldingFacts
 pub mod Knowing
+pub mod RangeSums
+pub mod UseFacts

@@ -159,7 +159,7 @@ pub apart_from : {T : Type 0} (p : PlainRange × T) (ps : List (PlainRange × T)
 apart_from p [] h rises = h
 apart_from p (q ∷ ps) h rises = (h, rises.0, apart_from q ps rises.1 rises.2)
 
-apart_rest : {T : Type 0} (p : PlainRange × T) (ps : List (PlainRange × T)) → AreApart (p ∷ ps) → AreApart ps
+pub apart_rest : {T : Type 0} (p : PlainRange × T) (ps : List (PlainRange × T)) → AreApart (p ∷ ps) → AreApart ps
 apart_rest p [] h = tt
 apart_rest p (q ∷ ps) h = h.2
 
@@ -167,7 +167,7 @@ pub ranges_of_apart : {T : Type 0} (ps : List (PlainRange × T)) → AreApart ps
 ranges_of_apart [] h = tt
 ranges_of_apart (p ∷ ps) h = ((apart_parts p ps h).0, ranges_of_apart ps (apart_rest p ps h))
 
-rises_from_before : {T : Type 0} (q p : PlainRange) (ps : List (PlainRange × T)) → IsBelow q p → IsRange p → RisesAfter p ps → RisesAfter q ps
+pub rises_from_before : {T : Type 0} (q p : PlainRange) (ps : List (PlainRange × T)) → IsBelow q p → IsRange p → RisesAfter p ps → RisesAfter q ps
 rises_from_before q p [] below range h = tt
 rises_from_before q p (s ∷ ss) below range h = (below_through q p s.0 below range.0 h.0, h.1, h.2)
 
@@ -241,12 +241,12 @@ length_filter test (p ∷ ps) =
     let rest : length (filter test ps) ≤ length ps = length_filter test ps in
     cond_both (test p) (p ∷ filter test ps) (filter test ps) (λ xs. length xs ≤ suc (length ps)) (λ e. omega arith) (λ e. omega arith)
 
-has_value_rest : {T : Type 0} (p : PlainRange × T) (ps : List (PlainRange × T)) (r : PlainRange) → same_range p.0 r ≡ false
+pub has_value_rest : {T : Type 0} (p : PlainRange × T) (ps : List (PlainRange × T)) (r : PlainRange) → same_range p.0 r ≡ false
     → is_some (value_of_range (p ∷ ps) r) ≡ true → is_some (value_of_range ps r) ≡ true
 has_value_rest p ps r f e =
     sym (ap (λ o. is_some (option_map (λ s. s.1) o)) (cond-false (same_range p.0 r) (Some p) (find (λ s. same_range s.0 r) ps) f)) ∙ e
 
-below_found : {T : Type 0} (q : PlainRange) (ps : List (PlainRange × T)) (r : PlainRange) → RisesAfter q ps → is_some (value_of_range ps r) ≡ true → IsBelow q r
+pub below_found : {T : Type 0} (q : PlainRange) (ps : List (PlainRange × T)) (r : PlainRange) → RisesAfter q ps → is_some (value_of_range ps r) ≡ true → IsBelow q r
 below_found q [] r h e = absurd (both_ways false refl e)
 below_found q (p ∷ ps) r h e =
     elim (cases_Bool (same_range p.0 r)) [

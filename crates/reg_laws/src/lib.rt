@@ -11,4 +11,5 @@ pub mod objects;
 pub mod painting;
 pub mod pieces;
 pub mod reached;
+pub mod usage;
 pub mod whole;
