@@ -37,7 +37,7 @@ keeps_same pool test s c order untested delegated is = record { card = c; same_s
 
 -- ---- the piece of a number
 
-held_through : (low : ℕ) (ps : List Piece) (x m : ℕ) (p : Piece) → RisesFrom low ps → piece_at ps x ≡ Some p → x ≤ m → m ≤ p.range.last
+pub held_through : (low : ℕ) (ps : List Piece) (x m : ℕ) (p : Piece) → RisesFrom low ps → piece_at ps x ≡ Some p → x ≤ m → m ≤ p.range.last
     → piece_at ps m ≡ Some p
 held_through low [] x m p rises e h k = absurd (none-some p e)
 held_through low (q ∷ qs) x m p rises e h k =
@@ -57,10 +57,10 @@ held_through low (q ∷ qs) x m p rises e h k =
     ]
 
 -- two ranges have no number in common, or some
-record IsMet (s r : PlainRange) : Type 0 where
-  one_space : s.space ≡ r.space
-  ends : r.first ≤ s.last
-  begins : s.first ≤ r.last
+pub record IsMet (s r : PlainRange) : Type 0 where
+  pub one_space : s.space ≡ r.space
+  pub ends : r.first ≤ s.last
+  pub begins : s.first ≤ r.last
 
 abbrev IsApart : PlainRange → PlainRange → Type 0
 IsApart s r = r.space ≡ s.space → (s.last < r.first) ⊎ (r.last < s.first)
@@ -79,7 +79,7 @@ apart_or_met s r =
     ]
 
 -- the piece of a range that meets another holds a number of the other
-met_number : (pool : Partition) (s r : PlainRange) (c : Card) → IsPartition pool → s.first ≤ s.last → (is : IsIn pool s c) → IsMet s r
+pub met_number : (pool : Partition) (s r : PlainRange) (c : Card) → IsPartition pool → s.first ≤ s.last → (is : IsIn pool s c) → IsMet s r
     → piece_at (pieces_in pool r.space) (max s.first r.first) ≡ Some is.piece
 met_number pool s r c h order is met =
     let last : s.last ≤ is.piece.range.last = inside_last s is.piece.range is.inside in
@@ -87,7 +87,7 @@ met_number pool s r c h order is met =
     subst (λ u. piece_at (pieces_in pool u) (max s.first r.first) ≡ Some is.piece) met.one_space
     (held_through 0 (pieces_in pool s.space) s.first (max s.first r.first) is.piece (h.each s.space).rises is.holds_first (omega arith) (omega arith))
 
-same_piece : (pool : Partition) (s r : PlainRange) (c : Card) → IsPartition pool → s.first ≤ s.last → (is : IsIn pool s c) → IsMet s r
+pub same_piece : (pool : Partition) (s r : PlainRange) (c : Card) → IsPartition pool → s.first ≤ s.last → (is : IsIn pool s c) → IsMet s r
     → (inside : IsInPiece pool r) → is.piece ≡ inside.piece
 same_piece pool s r c h order is met inside =
     let last : r.last ≤ inside.piece.range.last = inside.last in
@@ -145,7 +145,7 @@ keeps_received pool r d test h after range none =
     let b : s.first ≤ r.last = met.begins in
     absurd (none-some is.piece (sym (free (max s.first r.first) (omega arith) (omega arith)) ∙ met_number pool s r c h order is met)))
 
-inside_same : (pool : Partition) (s r : PlainRange) (c : Card) → IsPartition pool → s.first ≤ s.last → IsIn pool s c → IsMet s r
+pub inside_same : (pool : Partition) (s r : PlainRange) (c : Card) → IsPartition pool → s.first ≤ s.last → IsIn pool s c → IsMet s r
     → (one : IsOnePiece pool r) → lies_inside s r ≡ true
 unfolding one_is_inside
 inside_same pool s r c h order is met one =

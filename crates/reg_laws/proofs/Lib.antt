@@ -27,3 +27,5 @@ pub mod Knowing
 pub mod Enclosing
 pub mod Fitting
 pub mod LookedUp
+pub mod RangeSums
+pub mod UseFacts

@@ -241,12 +241,12 @@ length_filter test (p ∷ ps) =
     let rest : length (filter test ps) ≤ length ps = length_filter test ps in
     cond_both (test p) (p ∷ filter test ps) (filter test ps) (λ xs. length xs ≤ suc (length ps)) (λ e. omega arith) (λ e. omega arith)
 
-has_value_rest : {T : Type 0} (p : PlainRange × T) (ps : List (PlainRange × T)) (r : PlainRange) → same_range p.0 r ≡ false
+pub has_value_rest : {T : Type 0} (p : PlainRange × T) (ps : List (PlainRange × T)) (r : PlainRange) → same_range p.0 r ≡ false
     → is_some (value_of_range (p ∷ ps) r) ≡ true → is_some (value_of_range ps r) ≡ true
 has_value_rest p ps r f e =
     sym (ap (λ o. is_some (option_map (λ s. s.1) o)) (cond-false (same_range p.0 r) (Some p) (find (λ s. same_range s.0 r) ps) f)) ∙ e
 
-below_found : {T : Type 0} (q : PlainRange) (ps : List (PlainRange × T)) (r : PlainRange) → RisesAfter q ps → is_some (value_of_range ps r) ≡ true → IsBelow q r
+pub below_found : {T : Type 0} (q : PlainRange) (ps : List (PlainRange × T)) (r : PlainRange) → RisesAfter q ps → is_some (value_of_range ps r) ≡ true → IsBelow q r
 below_found q [] r h e = absurd (both_ways false refl e)
 below_found q (p ∷ ps) r h e =
     elim (cases_Bool (same_range p.0 r)) [

@@ -46,7 +46,7 @@ touches (Return range handle) s = lies_inside s range
 touches (Split at) s = straddles at s
 touches request s = false
 
-free_is_kept_back : (s : Status) → is_available s ≡ true → is_delegated s ≡ false
+pub free_is_kept_back : (s : Status) → is_available s ≡ true → is_delegated s ≡ false
 free_is_kept_back Available e = refl
 free_is_kept_back Reserved e = refl
 free_is_kept_back Quarantine e = refl
@@ -59,7 +59,7 @@ of_status : (r : Register) (range : PlainRange) (status : Status) (p : Piece) �
 of_status r range status p e is free =
     ap is_delegated (same_status-true p.card.status status (right_status r (first_number range) (is_status status) p e is)) ∙ free
 
-block_of_free : (r : Register) (space : Space) (amount : ℕ) (start : Option ℕ) → IsPartition r.pool
+pub block_of_free : (r : Register) (space : Space) (amount : ℕ) (start : Option ℕ) → IsPartition r.pool
     → (has_size space amount && option_map_or (is_free_block (register_pieces r space) space (amount_size space amount)) start false) ≡ true
     → (x : ℕ) × (start ≡ Some x) × ((inside : IsInPiece r.pool (range_from space x (amount_size space amount))) × (is_available inside.piece.card.status ≡ true))
 block_of_free r space amount None h e = absurd (both_ways false refl (and_parts (has_size space amount) false e).1)

@@ -12,4 +12,5 @@ pub mod painting;
 pub mod pieces;
 pub mod reached;
 pub mod subs;
+pub mod usage;
 pub mod whole;
