@@ -9,4 +9,5 @@ mod Places
 mod Regions
 pub mod Rising
 mod Spreads
+mod Starts
 pub mod Splicing

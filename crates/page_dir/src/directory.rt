@@ -4,6 +4,7 @@ ghost use Rattle.page_dir.specs.Pages.{AreDistinct, ArePages, joined, pages_at};
 ghost use Rattle.page_dir.specs.Sorted.{Rises, last_at_most, rank};
 ghost use Rattle.page_dir.specs.Splices.{spliced};
 
+use crate::between::count_between;
 use crate::locating::{Side, first_from, locate, run_from};
 use crate::replacing::replace;
 use crate::spread::Spread;
@@ -116,6 +117,14 @@ impl<K: Ord + Copy, V: Copy> PageDir<K, V> {
             return None;
         }
         Some(self.spread.page(page)[at])
+    }
+
+    /// How many pairs stand from the one key up to the other: two look-ups by halving, and the lengths of the pages between
+    /// are added up.
+    pub fn count_between(&self, from: &K, until: &K) -> u32
+        ensures { result ≡ rank K.cmp until.now self.now.pairs - rank K.cmp from.now self.now.pairs }
+    {
+        count_between(&self.spread, from, until)
     }
 
     /// The pairs whose keys are at least this one, rising. Each costs the same.

@@ -2,6 +2,7 @@
 //! memory, and a change moves no more than the pages that it meets.
 #![tactic(auto)]
 
+mod between;
 mod directory;
 pub mod laws;
 mod locating;

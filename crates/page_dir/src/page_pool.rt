@@ -187,7 +187,8 @@ pub(crate) fn append<T: Copy>(items: &mut Vec<T>, new: &[T])
     }
 }
 
-/// The same in the cells of one page, which has so many items: those behind the run move over the tail.
+/// In the cells of one page, which has so many items, some of them go from a place on and the new ones come there: those
+/// behind move by way of the tail.
 fn splice<T: Copy>(
     cells: &mut Vec<T>,
     start: usize,

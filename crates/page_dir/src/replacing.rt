@@ -44,7 +44,7 @@ pub(crate) fn replace<T: Copy>(
     }
     let i = part(spread, carry, i, at);
     cut(spread, i, n);
-    if new.len() == 0 {
+    if new.is_empty() {
         tidy(spread, carry, i.saturating_sub(1), i + 2);
         return;
     }

@@ -188,6 +188,17 @@ fn finds_alike<K: Key>(dir: &PageDir<K, u64>, plain: &[(u64, u64)], number: u64)
         && dir.from(&key).map(|p| p.1) == above
 }
 
+/// How many pairs stand from one number up to another.
+fn counts_alike<K: Key>(
+    dir: &PageDir<K, u64>,
+    plain: &[(u64, u64)],
+    from: u64,
+    until: u64,
+) -> bool {
+    let between = plain.iter().filter(|p| from <= p.0 && p.0 < until).count();
+    dir.count_between(&K::of(from), &K::of(until)) as usize == between
+}
+
 /// One splice of each list, mostly a short one.
 fn splice_both<K: Key>(
     alloc: Global,
@@ -223,6 +234,8 @@ fn drive<K: Key>(rt: &impl Abort, alloc: Global, splices: u32) -> Result<(), All
         if i % 100 == 99 {
             assert!(rt; agrees(&dir.dir, &plain));
             assert!(rt; finds_alike(&dir.dir, &plain, numbers.below(1_000_000)));
+            let (from, until) = (numbers.below(1_000_000), numbers.below(1_000_000));
+            assert!(rt; counts_alike(&dir.dir, &plain, from, until));
         }
     }
     Ok(())

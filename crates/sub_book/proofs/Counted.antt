@@ -1,5 +1,5 @@
--- How many ranges lie inside one, and how many numbers they have.
-use Rattle.std.proofs.Common.{◌≡◌, ℕ, ◌+◌, ◌-◌, ◌^◌, ◌<◌, ◌≤◌, true, false, ◌&&◌, ◌||◌, ◌==◌, cond, nat_lt, nat_le, List, [], ◌∷◌, length, inl, inr, refl, sym, ◌∙◌, ap, arith}
+-- How many numbers the ranges inside one have.
+use Rattle.std.proofs.Common.{◌≡◌, ℕ, ◌+◌, ◌-◌, ◌^◌, ◌<◌, ◌≤◌, true, false, ◌&&◌, ◌||◌, ◌==◌, cond, nat_lt, nat_le, List, [], ◌∷◌, inl, inr, refl, sym, ◌∙◌, ap, arith}
 use Rattle.std.proofs.lemmas.Bool.{and_parts, cases_Bool, cond-true, cond-false, eqb-true, leb-true, false_from_ne_true, false≢true}
 use Rattle.std.proofs.lemmas.Bool.Decides.{nat_tests}
 use Rattle.std.specs.List.{AllByRecursion}
@@ -31,49 +31,6 @@ inside_met {V} r (p ∷ ps) apart = elim (cases_Bool (meets r p.0)) [
 
 pub inside_met_of : {V : Type 0} (r : PlainRange) (ps met : List (PlainRange × V)) → AreApart ps → met ≡ ranges_meeting ps r → ranges_inside met r ≡ ranges_inside ps r
 inside_met_of {V} r ps met h e = ap (λ (xs : List (PlainRange × V)). ranges_inside xs r) e ∙ inside_met r ps (apart_of ps h)
-
-few : {V : Type 0} (r : PlainRange) (ps : List (PlainRange × V)) → length (ranges_inside ps r) ≤ length ps
-few r [] = omega arith
-few r (p ∷ ps) = elim (cases_Bool (inside r p.0)) [
-  | inl t ↦ let rest = few r ps in let one = ap length (one_inside r p ps t) in omega arith
-  | inr f ↦ let rest = few r ps in let none = ap length (one_outside r p ps f) in omega arith
-]
-
--- ---- one more
-
--- what was counted, and what is left, are all
-pub record IsCounted {V : Type 0} (r : PlainRange) (ps left : List (PlainRange × V)) (count : ℕ) : Type 0 where
-  pub all : count + length (ranges_inside left r) ≡ length (ranges_inside ps r)
-  pub few : length (ranges_inside ps r) ≤ length ps
-
-pub none_counted : {V : Type 0} (r : PlainRange) (ps left : List (PlainRange × V)) → AreApart ps → left ≡ ranges_meeting ps r → IsCounted r ps left 0
-none_counted r ps left h e = record { all = let same = ap length (inside_met_of r ps left h e) in omega arith; few = few r ps }
-
-pub one_counted : {V : Type 0} (r : PlainRange) (ps left rest : List (PlainRange × V)) (p : PlainRange × V) (count : ℕ) → left ≡ p ∷ rest → inside r p.0 ≡ true
-    → IsCounted r ps left count → IsCounted r ps rest (count + 1)
-one_counted {V} r ps left rest p count e t h =
-    let one = ap length (ap (λ (xs : List (PlainRange × V)). ranges_inside xs r) e ∙ one_inside r p rest t) in
-    record { all = let was = h.all in omega arith; few = h.few }
-
-pub one_passed : {V : Type 0} (r : PlainRange) (ps left rest : List (PlainRange × V)) (p : PlainRange × V) (count : ℕ) → left ≡ p ∷ rest → inside r p.0 ≡ false
-    → IsCounted r ps left count → IsCounted r ps rest count
-one_passed {V} r ps left rest p count e f h =
-    let same = ap length (ap (λ (xs : List (PlainRange × V)). ranges_inside xs r) e ∙ one_outside r p rest f) in
-    record { all = let was = h.all in omega arith; few = h.few }
-
-pub room_for_one : {V : Type 0} (r : PlainRange) (ps left rest : List (PlainRange × V)) (p : PlainRange × V) (count : ℕ) → left ≡ p ∷ rest → inside r p.0 ≡ true
-    → IsCounted r ps left count → count + 1 ≤ length ps
-room_for_one {V} r ps left rest p count e t h =
-    let one = ap length (ap (λ (xs : List (PlainRange × V)). ranges_inside xs r) e ∙ one_inside r p rest t) in
-    let was = h.all in
-    let few = h.few in
-    omega arith
-
-pub all_counted : {V : Type 0} (r : PlainRange) (ps left : List (PlainRange × V)) (count : ℕ) → left ≡ [] → IsCounted r ps left count → count ≡ length (ranges_inside ps r)
-all_counted {V} r ps left count e h =
-    let none = ap length (ap (λ (xs : List (PlainRange × V)). ranges_inside xs r) e) in
-    let was = h.all in
-    omega arith
 
 -- ---- numbers
 

@@ -4,3 +4,4 @@ pub mod Sought
 pub mod Changed
 pub mod Counted
 pub mod Replaced
+pub mod Ends

@@ -1,4 +1,4 @@
-ghost use Rattle.std.specs.Prelude.{◌≡◌, ◌+◌, ◌^◌, ◌<◌, ◌≤◌, ◌&&◌, [], None, filter, is_some, length, if◌then◌else◌, IfOk, IsSome, vec_capacity};
+ghost use Rattle.std.specs.Prelude.{◌≡◌, ◌+◌, ◌-◌, ◌^◌, ◌<◌, ◌≤◌, ◌&&◌, [], None, filter, is_some, length, if◌then◌else◌, IfOk, IsSome, vec_capacity};
 ghost use Rattle.std.specs.Option.{option_map, option_to_list};
 ghost use Rattle.std.specs.List.{slice_get};
 ghost use Rattle.num_range.specs.Number.{number_before};
@@ -9,7 +9,7 @@ ghost use Rattle.reg_entry.specs.Decision.{straddling};
 ghost use Rattle.reg_entry.specs.Sums.{ranges_size};
 ghost use Rattle.page_dir.specs.Splices.{spliced};
 ghost use Rattle.sub_book.specs.Book.{NoneStraddles, enclosing, ranges_meeting};
-ghost use Rattle.sub_book.specs.Order.{coming, ended_below};
+ghost use Rattle.sub_book.specs.Order.{coming, ended_below, next_inside};
 
 use crate::RangeWalk;
 use crate::by_last::ByLast;
@@ -150,21 +150,41 @@ impl<T: Copy> RangeBook<T> {
         RangeWalk::over(*r, self.dir.walk_from(&ByLast::ending_at(r.first_number())))
     }
 
-    /// How many ranges lie inside this one. One look-up, and each range that meets this one is gone over.
+    /// How many ranges lie inside this one. Two look-ups by halving, between which the lengths of pages are added up, count
+    /// those that end inside, short of the last number; one more at each end says of the range there whether it lies inside.
     pub fn count_inside(&self, r: &Range) -> u32
         ensures { result ≡ length (ranges_inside self.now.ranges r.now) }
     {
         self.are_apart();
-        let mut count = 0;
-        for (met, _) in self.walk(r) {
-            if met.inside(r) {
-                count += 1;
-            }
+        let (first, last) = (r.first_number(), Number::of(r.space(), r.last()));
+        let ending = self.count_ending(first, last);
+        let at_end = self.count_next(last, r);
+        if ending == 0 {
+            return at_end;
         }
-        count
+        ending - 1 + self.count_next(first, r) + at_end
     }
 
-    /// How many numbers the ranges that lie inside this one have, at the same cost.
+    /// How many ranges end at the one number or above, and below the other.
+    fn count_ending(&self, from: Number, until: Number) -> u32
+        ensures { result ≡ ended_below until self.now.ranges - ended_below from self.now.ranges }
+    {
+        self.dir
+            .count_between(&ByLast::ending_at(from), &ByLast::ending_at(until))
+    }
+
+    /// 1 where the first range that ends at the number or above lies inside this one.
+    fn count_next(&self, n: Number, r: &Range) -> u32
+        ensures { result ≡ next_inside n self.now.ranges r.now }
+    {
+        match self.next_ending(n) {
+            Some((range, _)) if range.inside(r) => 1,
+            _ => 0,
+        }
+    }
+
+    /// How many numbers the ranges that lie inside this one have. One look-up, and each range that meets this one is gone
+    /// over.
     pub fn numbers_inside(&self, r: &Range) -> u128
         requires { IsPoolRange r.now }
         ensures { result ≡ ranges_size (ranges_inside self.now.ranges r.now) }
@@ -204,7 +224,7 @@ impl<T: Copy> RangeBook<T> {
         self.replace(r, 1, None);
     }
 
-    /// Takes out the ranges that lie inside this one, which are counted first, and then go in one splice.
+    /// Takes out the ranges that lie inside this one, which are counted first by look-ups, and then go in one splice.
     pub fn drop_inside(&mut self, r: &Range)
         requires { NoneStraddles self.old.ranges r.now }
         ensures ranges { self.new.ranges ≡ without_inside self.old.ranges r.now }

@@ -6,6 +6,7 @@ use Rattle.page_dir.specs.Spread.{AreTidy, pages_in, start}
 use Rattle.page_dir.proofs.Enough.{enough_grown, tidy-inserted}
 use Rattle.page_dir.proofs.Joining.{joined-insert_empty, joined-replaced, joined-spliced, joined-split}
 use Rattle.page_dir.proofs.Splicing.{length-spliced}
+use Rattle.std.proofs.lemmas.Bool.{eqb-true}
 use Rattle.std.proofs.lemmas.List.{length-append, nil_from_length}
 use Rattle.page_dir.proofs.replacing.replace.Goals as goal
 
@@ -57,14 +58,14 @@ returns-clause-joined g c =
     ∙ ap (λ k. spliced k c.args.n c.args.new.now (joined ps)) c.part-i.ensures.place
     ∙ ap (spliced (start (pages_in c.args.spread.now) c.args.i + c.args.at) c.args.n c.args.new.now) c.part-i.ensures.joined
 
-pub returns-then-new-eq0-clause-joined : goal.returns-then-new-eq0-clause-joined
-returns-then-new-eq0-clause-joined g c =
+pub returns-then-is_empty-clause-joined : goal.returns-then-is_empty-clause-joined
+returns-then-is_empty-clause-joined g c =
     let ps = pages_in c.part-i.new.spread in
     let qs = pages_in c.cut.new.spread in
     let r = c.part-i.result in
     let at = start (pages_in c.args.spread.now) c.args.i + c.args.at in
-    c.tidy-then-new-eq0.ensures.joined ∙ joined-insert_empty qs r
+    c.tidy-then-is_empty.ensures.joined ∙ joined-insert_empty qs r
     ∙ joined-replaced ps qs r c.args.n [] c.cut.ensures.front c.cut.ensures.rest
     ∙ ap (λ k. spliced k c.args.n [] (joined ps)) c.part-i.ensures.place
     ∙ ap (spliced at c.args.n []) c.part-i.ensures.joined
-    ∙ ap (λ new. spliced at c.args.n new (joined (pages_in c.args.spread.now))) (sym (nil_from_length c.args.new.now (omega (arith, c.if-new-eq0.true))))
+    ∙ ap (λ new. spliced at c.args.n new (joined (pages_in c.args.spread.now))) (sym (nil_from_length c.args.new.now (eqb-true (length c.args.new.now) 0 (sym c.if-is_empty.ensures))))
