@@ -1,13 +1,15 @@
 -- The holders of a whole register's cards are there.
-use Rattle.std.proofs.Common.{◌≡◌, ℕ, ◌<◌, List, [], ◌∷◌, length, Option, None, Some, IfSome, sym, ◌∙◌, subst, inl, inr}
-use Rattle.std.proofs.lemmas.Bool.{cases_Bool}
+use Rattle.std.proofs.Common.{◌≡◌, ℕ, ◌<◌, true, nat_eq, refl, List, [], ◌∷◌, length, Option, None, Some, IfSome, sym, ◌∙◌, subst, inl, inr}
+use Rattle.std.specs.Option.{option_eq, option_map}
+use Rattle.std.proofs.lemmas.Bool.{cases_Bool, and_parts, eqb-true}
 use Rattle.std.proofs.lemmas.Option.{none-some, same_Some}
 use Rattle.reg_entry.specs.declared.card.Card.{Card}
 use Rattle.reg_entry.specs.declared.piece.Piece.{Piece}
 use Rattle.reg_entry.specs.Card.{is_delegated}
 use Rattle.reg_entry.specs.Pieces.{piece_holds, piece_at}
 use Rattle.num_range.specs.Number.{PlainNumber}
-use Rattle.reg_entry.specs.Register.{Register, register_pieces, piece_of}
+use Rattle.reg_entry.specs.Register.{Register, register_pieces, piece_of, card_of}
+use Rattle.reg_entry.specs.Holdings.{gives_held}
 use Rattle.reg_entry.specs.Whole.{IsCardIn, HaveCardsIn, IsKnownHolder, IsWholeRegister}
 use Rattle.reg_entry.proofs.Holding.{piece_at-first, piece_at-rest}
 
@@ -34,3 +36,24 @@ card_holder r c h =
 pub holder_known : (r : Register) (n : PlainNumber) (p : Piece) → IsWholeRegister r → piece_of r.pool n ≡ Some p
     → IfSome p.card.holder (λ number. number < length r.holders)
 holder_known r n p whole e = card_holder r p.card (card_in r (register_pieces r n.space) n.value p (whole.cards n.space) e)
+
+-- ---- of the card of a number
+
+holder_there : (r : Register) (holder : ℕ) (o : Option ℕ) → option_eq nat_eq o (Some holder) ≡ true → IsKnownHolder r o → holder < length r.holders
+holder_there r holder None e h = absurd h
+holder_there r holder (Some number) e h = subst (λ (n : ℕ). n < length r.holders) (eqb-true number holder e) h
+
+known_at : (r : Register) (ps : List Piece) (x : ℕ) (o : Option Piece) → HaveCardsIn r ps → piece_at ps x ≡ o
+    → IfSome (option_map (λ p. p.card) o) (λ c. (holder : ℕ) → gives_held holder c ≡ true → holder < length r.holders)
+known_at r ps x None each e = tt
+known_at r ps x (Some p) each e = λ holder gives.
+    let both = and_parts (is_delegated p.card.status) (option_eq nat_eq p.card.holder (Some holder)) gives in
+    holder_there r holder p.card.holder both.1 ((card_in r ps x p each e).holder both.0)
+
+-- the holder to whom a number's card gives it is there
+pub known_holders : (r : Register) (n : PlainNumber) (o : Option Card) (count : ℕ) → IsWholeRegister r → o ≡ card_of r.pool n → count ≡ length r.holders
+    → IfSome o (λ c. (holder : ℕ) → gives_held holder c ≡ true → holder < count)
+known_holders r n o count whole is same =
+    subst (λ (m : ℕ). IfSome o (λ c. (holder : ℕ) → gives_held holder c ≡ true → holder < m)) (sym same)
+    (subst (λ (x : Option Card). IfSome x (λ c. (holder : ℕ) → gives_held holder c ≡ true → holder < length r.holders)) (sym is)
+    (known_at r (register_pieces r n.space) n.value (piece_at (register_pieces r n.space) n.value) (whole.cards n.space) refl))

@@ -4,3 +4,5 @@ pub mod Known
 pub mod Splitting
 pub mod FreeBlocks
 pub mod Steps
+pub mod PoolSizes
+pub mod Meeting

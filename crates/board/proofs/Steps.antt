@@ -3,7 +3,7 @@ use Rattle.std.proofs.Common.{◌≡◌, ℕ, suc, ◌+◌, ◌-◌, ◌<◌, �
 use Rattle.std.proofs.lemmas.Bool.{both_ways}
 use Rattle.num_range.specs.declared.space.Space.{Space}
 use Rattle.num_range.specs.Number.{PlainNumber}
-use Rattle.num_range.specs.Range.{PlainRange}
+use Rattle.num_range.specs.Range.{PlainRange, size_of}
 use Rattle.reg_entry.specs.declared.card.Card.{Card}
 use Rattle.reg_entry.specs.declared.card.Status.{Status}
 use Rattle.reg_entry.specs.declared.card.Status.TheVariants.{Available, Reserved, Quarantine, Allocated, Assigned}
@@ -21,24 +21,27 @@ use Rattle.reg_entry.specs.Partition.{Partition, pieces_in, with_pieces, piece_c
 use Rattle.reg_entry.specs.Pieces.{piece_at, laid}
 use Rattle.reg_entry.specs.Register.{Register, piece_of, card_of, reshaped, painted, pool_after, holders_after, subs_after, reverses_after, after_entry}
 use Rattle.reg_entry.specs.Reshaping.{split_at_number}
-use Rattle.reg_entry.specs.Sums.{held, allocated}
+use Rattle.reg_entry.specs.Ranges.{ranges_inside}
+use Rattle.reg_entry.specs.Sums.{held, allocated, used, ranges_size}
 use Rattle.reg_entry.specs.Whole.{IsWholeRegister}
 use Rattle.piece_book.specs.Book.{PlainBook}
 use Rattle.piece_book.specs.Cutting.{IsSplitPlace}
 use Rattle.holder_book.specs.Book.{PlainHolderBook}
-use Rattle.holding_book.specs.Book.{PlainHoldingBook, held_in, allocated_in}
+use Rattle.holding_book.specs.Book.{PlainHoldingBook, held_in, allocated_in, used_in, used_of, used_of_card}
+use Rattle.sub_book.specs.Book.{PlainRangeBook}
+use Rattle.reg_laws.specs.Use.{used_by, used_by_card}
 use Rattle.reg_entry.specs.Holdings.{held_by, held_by_card, allocated_by, allocated_by_card}
 use Rattle.reg_laws.specs.Reached.{IsReached}
 use Rattle.reg_entry.specs.Reshaping.{CanJoinAt}
 use Rattle.board.specs.declared.board.Board.TheInside.{Inside as BoardInside}
 use Rattle.reg_entry.specs.declared.entry.Entry.TheInside.{Inside as EntryInside}
-use Rattle.board.specs.Kinds.{is_of_pieces_or_holders}
+use Rattle.board.specs.Kinds.{asks_for_no_reverse}
 use Rattle.board.specs.Kept.{register_of, AreHoldingsIn, IsKeptIn}
 use Rattle.board.proofs.Splitting.{split_adds}
 
 -- the register and the entry of the fields
 abbrev pub register_in : BoardInside → Register
-register_in b = register_of b.rooms b.entries b.first_day b.last_day b.pieces b.holders
+register_in b = register_of b.rooms b.entries b.first_day b.last_day b.pieces b.holders b.subs
 
 abbrev pub entry_in : EntryInside → PlainEntry
 entry_in e = record { seq = e.seq; day = e.day; who = e.who; request = e.request; cover = e.cover; card = e.card }
@@ -49,24 +52,27 @@ next_at r s e d same one next =
 
 -- ---- the parts of the register after the entry
 
-no_subs : (request : Request) (day : ℕ) (hs : List (Holder × ℕ)) → is_of_pieces_or_holders request ≡ true → subs_after request day hs [] ≡ []
-no_subs (Receive range) day hs e = refl
-no_subs (AddHolder holder) day hs e = refl
-no_subs (EditHolder holder) day hs e = refl
-no_subs (Delegate space amount status handle) day hs e = refl
-no_subs (Reserve range) day hs e = refl
-no_subs (Unreserve range) day hs e = refl
-no_subs (SubAssign range handle) day hs e = absurd (both_ways false refl e)
-no_subs (SubReturn range) day hs e = refl
-no_subs (Return range handle) day hs e = refl
-no_subs (Release range) day hs e = refl
-no_subs (Split at) day hs e = refl
-no_subs (Join at) day hs e = refl
-no_subs (Transfer range from to) day hs e = refl
-no_subs (SetReverse range servers) day hs e = refl
-no_subs (ClearReverse range) day hs e = refl
+-- a request that adds and takes out no sub leaves the subs
+pub same_subs : (request : Request) (day : ℕ) (hs : List (Holder × ℕ)) (subs : List (PlainRange × SubCard))
+    → ((range : PlainRange) (handle : List ℕ) → request ≡ SubAssign range handle → ⊥) → ((range : PlainRange) → request ≡ SubReturn range → ⊥)
+    → subs ≡ subs_after request day hs subs
+same_subs (Receive range) day hs subs a b = refl
+same_subs (AddHolder holder) day hs subs a b = refl
+same_subs (EditHolder holder) day hs subs a b = refl
+same_subs (Delegate space amount status handle) day hs subs a b = refl
+same_subs (Reserve range) day hs subs a b = refl
+same_subs (Unreserve range) day hs subs a b = refl
+same_subs (SubAssign range handle) day hs subs a b = absurd (a range handle refl)
+same_subs (SubReturn range) day hs subs a b = absurd (b range refl)
+same_subs (Return range handle) day hs subs a b = refl
+same_subs (Release range) day hs subs a b = refl
+same_subs (Split at) day hs subs a b = refl
+same_subs (Join at) day hs subs a b = refl
+same_subs (Transfer range from to) day hs subs a b = refl
+same_subs (SetReverse range servers) day hs subs a b = refl
+same_subs (ClearReverse range) day hs subs a b = refl
 
-no_reverses : (request : Request) → is_of_pieces_or_holders request ≡ true → reverses_after request [] ≡ []
+no_reverses : (request : Request) → asks_for_no_reverse request ≡ true → reverses_after request [] ≡ []
 no_reverses (Receive range) e = refl
 no_reverses (AddHolder holder) e = refl
 no_reverses (EditHolder holder) e = refl
@@ -154,36 +160,39 @@ with_parts rooms entries first last pool holders subs reverses = record {
   reverses = reverses;
 }
 
-pub register_is : (rooms : Rooms) (entries first last : ℕ) (ps qs : PlainBook) (hs ks : PlainHolderBook) (e : PlainEntry) (day : ℕ)
-    → is_of_pieces_or_holders e.request ≡ true → day ≡ cond (entries == 0) e.day first
+pub register_is : (rooms : Rooms) (entries first last : ℕ) (ps qs : PlainBook) (hs ks : PlainHolderBook) (ss ts : PlainRangeBook SubCard) (e : PlainEntry) (day : ℕ)
+    → asks_for_no_reverse e.request ≡ true → day ≡ cond (entries == 0) e.day first
     → qs.partition ≡ pool_after e.request e.cover e.card ps.partition → ks.holders ≡ holders_after e.request e.day hs.holders
-    → register_of rooms (entries + 1) day e.day qs ks ≡ after_entry (register_of rooms entries first last ps hs) e
-register_is rooms entries first last ps qs hs ks e day kind f p h =
-    ap (λ (d : ℕ). with_parts rooms (entries + 1) d e.day qs.partition ks.holders [] []) f
-    ∙ ap (λ (x : Partition). with_parts rooms (entries + 1) (cond (entries == 0) e.day first) e.day x ks.holders [] []) p
+    → ts.ranges ≡ subs_after e.request e.day hs.holders ss.ranges
+    → register_of rooms (entries + 1) day e.day qs ks ts ≡ after_entry (register_of rooms entries first last ps hs ss) e
+register_is rooms entries first last ps qs hs ks ss ts e day kind f p h s =
+    ap (λ (d : ℕ). with_parts rooms (entries + 1) d e.day qs.partition ks.holders ts.ranges []) f
+    ∙ ap (λ (x : Partition). with_parts rooms (entries + 1) (cond (entries == 0) e.day first) e.day x ks.holders ts.ranges []) p
     ∙ ap (λ (x : List (Holder × ℕ)). with_parts rooms (entries + 1) (cond (entries == 0) e.day first) e.day
-    (pool_after e.request e.cover e.card ps.partition) x [] []) h
+    (pool_after e.request e.cover e.card ps.partition) x ts.ranges []) h
     ∙ ap (λ (x : List (PlainRange × SubCard)). with_parts rooms (entries + 1) (cond (entries == 0) e.day first) e.day
-    (pool_after e.request e.cover e.card ps.partition) (holders_after e.request e.day hs.holders) x []) (sym (no_subs e.request e.day hs.holders kind))
+    (pool_after e.request e.cover e.card ps.partition) (holders_after e.request e.day hs.holders) x []) s
     ∙ ap (λ (x : List (PlainRange × List (List ℕ))). with_parts rooms (entries + 1) (cond (entries == 0) e.day first) e.day
-    (pool_after e.request e.cover e.card ps.partition) (holders_after e.request e.day hs.holders) (subs_after e.request e.day hs.holders []) x)
+    (pool_after e.request e.cover e.card ps.partition) (holders_after e.request e.day hs.holders) (subs_after e.request e.day hs.holders ss.ranges) x)
     (sym (no_reverses e.request kind))
 
-pub kept_by : (rooms : Rooms) (entries first last : ℕ) (ps qs : PlainBook) (hs ks : PlainHolderBook) (e : PlainEntry) (day : ℕ)
-    (book more : PlainHoldingBook) → IsKeptIn (register_of rooms entries first last ps hs) ps.room hs.room book
-    → IsReached (after_entry (register_of rooms entries first last ps hs) e)
-    → is_of_pieces_or_holders e.request ≡ true → day ≡ cond (entries == 0) e.day first
+pub kept_by : (rooms : Rooms) (entries first last : ℕ) (ps qs : PlainBook) (hs ks : PlainHolderBook) (ss ts : PlainRangeBook SubCard) (e : PlainEntry) (day : ℕ)
+    (book more : PlainHoldingBook) → IsKeptIn (register_of rooms entries first last ps hs ss) ps.room hs.room ss.room book
+    → IsReached (after_entry (register_of rooms entries first last ps hs ss) e)
+    → asks_for_no_reverse e.request ≡ true → day ≡ cond (entries == 0) e.day first
     → qs.partition ≡ pool_after e.request e.cover e.card ps.partition → qs.room ≡ ps.room
     → ks.holders ≡ holders_after e.request e.day hs.holders → ks.room ≡ hs.room
-    → AreHoldingsIn (after_entry (register_of rooms entries first last ps hs) e) more → more.room ≡ book.room
-    → IsKeptIn (register_of rooms (entries + 1) day e.day qs ks) qs.room ks.room more
-kept_by rooms entries first last ps qs hs ks e day book more kept reached kind f p pr h hr holdings mr =
-    subst (λ (x : Register). IsKeptIn x qs.room ks.room more) (sym (register_is rooms entries first last ps qs hs ks e day kind f p h))
+    → ts.ranges ≡ subs_after e.request e.day hs.holders ss.ranges → ts.room ≡ ss.room
+    → AreHoldingsIn (after_entry (register_of rooms entries first last ps hs ss) e) more → more.room ≡ book.room
+    → IsKeptIn (register_of rooms (entries + 1) day e.day qs ks ts) qs.room ks.room ts.room more
+kept_by rooms entries first last ps qs hs ks ss ts e day book more kept reached kind f p pr h hr s sr holdings mr =
+    subst (λ (x : Register). IsKeptIn x qs.room ks.room ts.room more) (sym (register_is rooms entries first last ps qs hs ks ss ts e day kind f p h s))
     (record {
       reached = reached;
       rooms = kept.rooms;
       pieces = pr ∙ kept.pieces;
       holders = hr ∙ kept.holders;
+      subs = sr ∙ kept.subs;
       holding_room = mr ∙ kept.holding_room;
       holdings = holdings;
     })
@@ -193,31 +202,53 @@ kept_by rooms entries first last ps qs hs ks e day book more kept reached kind f
 pub unchanged_holdings : (r : Register) (e : PlainEntry) (book more : PlainHoldingBook) → AreHoldingsIn r book
     → ((holder : ℕ) (space : Space) → held (after_entry r e) holder space ≡ held r holder space)
     → ((holder : ℕ) (space : Space) → allocated (after_entry r e) holder space ≡ allocated r holder space)
+    → ((holder : ℕ) (space : Space) → used (after_entry r e) holder space ≡ used r holder space)
     → length more.holdings ≡ length (after_entry r e).holders
     → ((holder : ℕ) (space : Space) → held_in more holder space ≡ held_in book holder space)
     → ((holder : ℕ) (space : Space) → allocated_in more holder space ≡ allocated_in book holder space)
+    → ((holder : ℕ) (space : Space) → used_in more holder space ≡ used_in book holder space)
     → AreHoldingsIn (after_entry r e) more
-unchanged_holdings r e book more h same_held same_allocated count to_held to_allocated = record {
+unchanged_holdings r e book more h same_held same_allocated same_used count to_held to_allocated to_used = record {
   count = count;
   held = λ holder space. to_held holder space ∙ h.held holder space ∙ sym (same_held holder space);
   allocated = λ holder space. to_allocated holder space ∙ h.allocated holder space ∙ sym (same_allocated holder space);
+  used = λ holder space. to_used holder space ∙ h.used holder space ∙ sym (same_used holder space);
+}
+
+-- what is held and allocated stays, and so much more or less is used
+pub used_holdings : (r : Register) (e : PlainEntry) (book more : PlainHoldingBook) → AreHoldingsIn r book
+    → ((holder : ℕ) (space : Space) → held (after_entry r e) holder space ≡ held r holder space)
+    → ((holder : ℕ) (space : Space) → allocated (after_entry r e) holder space ≡ allocated r holder space)
+    → length more.holdings ≡ length (after_entry r e).holders
+    → ((holder : ℕ) (space : Space) → held_in more holder space ≡ held_in book holder space)
+    → ((holder : ℕ) (space : Space) → allocated_in more holder space ≡ allocated_in book holder space)
+    → ((holder : ℕ) (space : Space) → used_in more holder space ≡ used (after_entry r e) holder space)
+    → AreHoldingsIn (after_entry r e) more
+used_holdings r e book more h same_held same_allocated count to_held to_allocated to_used = record {
+  count = count;
+  held = λ holder space. to_held holder space ∙ h.held holder space ∙ sym (same_held holder space);
+  allocated = λ holder space. to_allocated holder space ∙ h.allocated holder space ∙ sym (same_allocated holder space);
+  used = to_used;
 }
 
 taken_and_given : (after was former given there here : ℕ) → after + former ≡ was + given → here + former ≡ there + given → there ≡ was → here ≡ after
 taken_and_given after was former given there here e f g = omega arith
 
-pub exchanged_holdings : (r : Register) (e : PlainEntry) (book more : PlainHoldingBook) (range : PlainRange) (former : Option Card) (c : Card)
-    → AreHoldingsIn r book → former ≡ card_of r.pool (first_number range)
+pub exchanged_holdings : (r : Register) (e : PlainEntry) (book more : PlainHoldingBook) (range : PlainRange) (former : Option Card) (c : Card) (n : ℕ)
+    → AreHoldingsIn r book → former ≡ card_of r.pool (first_number range) → n ≡ ranges_size (ranges_inside r.subs range)
     → ((holder : ℕ) (space : Space) → held (after_entry r e) holder space + held_by holder space range (card_of r.pool (first_number range))
     ≡ held r holder space + held_by_card holder space range c)
     → ((holder : ℕ) (space : Space) → allocated (after_entry r e) holder space + allocated_by holder space range (card_of r.pool (first_number range))
     ≡ allocated r holder space + allocated_by_card holder space range c)
+    → ((holder : ℕ) (space : Space) → used (after_entry r e) holder space + used_by r.subs holder space range (card_of r.pool (first_number range))
+    ≡ used r holder space + used_by_card r.subs holder space range c)
     → length more.holdings ≡ length (after_entry r e).holders
     → ((holder : ℕ) (space : Space) → held_in more holder space + held_by holder space range former ≡ held_in book holder space + held_by_card holder space range c)
     → ((holder : ℕ) (space : Space) → allocated_in more holder space + allocated_by holder space range former
     ≡ allocated_in book holder space + allocated_by_card holder space range c)
+    → ((holder : ℕ) (space : Space) → used_in more holder space + used_of holder space range former n ≡ used_in book holder space + used_of_card holder space range c n)
     → AreHoldingsIn (after_entry r e) more
-exchanged_holdings r e book more range former c h is held_law allocated_law count to_held to_allocated = record {
+exchanged_holdings r e book more range former c n h is size held_law allocated_law used_law count to_held to_allocated to_used = record {
   count = count;
   held = λ holder space.
       taken_and_given (held (after_entry r e) holder space) (held r holder space) (held_by holder space range former) (held_by_card holder space range c)
@@ -229,7 +260,48 @@ exchanged_holdings r e book more range former c h is held_law allocated_law coun
       (allocated_by_card holder space range c) (allocated_in book holder space) (allocated_in more holder space)
       (ap (λ (x : Option Card). allocated (after_entry r e) holder space + allocated_by holder space range x) is ∙ allocated_law holder space)
       (to_allocated holder space) (h.allocated holder space);
+  used = λ holder space.
+      taken_and_given (used (after_entry r e) holder space) (used r holder space) (used_of holder space range former n)
+      (used_of_card holder space range c n) (used_in book holder space) (used_in more holder space)
+      (ap (λ (m : ℕ). used (after_entry r e) holder space + used_of holder space range former m) size
+      ∙ ap (λ (x : Option Card). used (after_entry r e) holder space + used_by r.subs holder space range x) is ∙ used_law holder space
+      ∙ ap (λ (m : ℕ). used r holder space + used_of_card holder space range c m) (sym size))
+      (to_used holder space) (h.used holder space);
 }
+
+-- what is taken from what is used is used
+pub taken_use : (subs : List (PlainRange × SubCard)) (holder : ℕ) (space : Space) (range : PlainRange) (former card : Option Card) (n was there : ℕ)
+    → former ≡ card → n ≡ ranges_size (ranges_inside subs range) → used_by subs holder space range card ≤ was → there ≡ was
+    → used_of holder space range former n ≤ there
+taken_use subs holder space range former card n was there is size h same =
+    subst (λ (m : ℕ). used_of holder space range former n ≤ m) (sym same)
+    (subst (λ (m : ℕ). used_of holder space range former m ≤ was) (sym size) (subst (λ (o : Option Card). used_by subs holder space range o ≤ was) (sym is) h))
+
+-- ---- a sub more, and one less
+
+-- what is used of a range that is a sub is what is allocated of it
+pub given_use : (was : ℕ) (holder : ℕ) (space : Space) (range : PlainRange) (o card : Option Card) (n : ℕ) → o ≡ card → n ≡ size_of range
+    → was + allocated_by holder space range card ≡ was + used_of holder space range o n
+given_use was holder space range o card n is size =
+    ap (λ (x : Option Card). was + allocated_by holder space range x) (sym is) ∙ ap (λ (m : ℕ). was + used_of holder space range o m) (sym size)
+
+pub taken_sub : (holder : ℕ) (space : Space) (range : PlainRange) (o card : Option Card) (n was there : ℕ) → o ≡ card → n ≡ size_of range
+    → allocated_by holder space range card ≤ was → there ≡ was → used_of holder space range o n ≤ there
+taken_sub holder space range o card n was there is size h same =
+    subst (λ (m : ℕ). used_of holder space range o n ≤ m) (sym same)
+    (subst (λ (m : ℕ). used_of holder space range o m ≤ was) (sym size) (subst (λ (x : Option Card). allocated_by holder space range x ≤ was) (sym is) h))
+
+pub used_below : (used allocated held : ℕ) → used ≤ allocated → allocated ≤ held → held < 2 ^ 127 → used < 2 ^ 127
+used_below used allocated held f g h = omega arith
+
+pub assigned_fits : (after was given there : ℕ) → after ≡ was + given → there ≡ was → after < 2 ^ 127 → there + given < 2 ^ 128
+assigned_fits after was given there e f g = omega arith
+
+pub now_used : (after was given there here : ℕ) → after ≡ was + given → there ≡ was → here ≡ there + given → here ≡ after
+now_used after was given there here e f g = omega arith
+
+pub no_longer_used : (after was given there here : ℕ) → after + given ≡ was → there ≡ was → here + given ≡ there → here ≡ after
+no_longer_used after was given there here e f g = omega arith
 
 pub fits_in : (after was former given there : ℕ) → after + former ≡ was + given → former ≤ was → there ≡ was → was < 2 ^ 127 → after < 2 ^ 127
     → there + given < 2 ^ 128

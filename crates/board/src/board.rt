@@ -1,22 +1,19 @@
 //! The register of a list of entries, kept so that no request walks over all of it.
-ghost use Rattle.std.specs.Prelude.{◌≡◌, ℕ, ◌+◌, ◌<◌, ◌≤◌, ◌^◌, ◌==◌, ◌++◌, ◌∷◌, if◌then◌else◌, true, [], length, IsSome, IfOk};
-ghost use Rattle.num_range.specs.declared.space.Space.{Space as TheSpace};
-ghost use Rattle.reg_entry.specs.Covers.{first_number};
-ghost use Rattle.reg_entry.specs.Holders.{holder_number, edited_holder};
-ghost use Rattle.reg_entry.specs.Register.{card_of};
-ghost use Rattle.reg_entry.specs.Holdings.{gives_held, held_by, allocated_by, held_by_card, allocated_by_card};
-ghost use Rattle.holding_book.specs.Book.{held_in, allocated_in};
+ghost use Rattle.std.specs.Prelude.{◌≡◌, ℕ, ◌+◌, ◌<◌, ◌≤◌, ◌^◌, ◌==◌, ◌++◌, ◌∷◌, if◌then◌else◌, true, [], None, length, IsSome, IfSome, IfOk};
 ghost use Rattle.reg_entry.specs.Rooms.{AreRooms};
+ghost use Rattle.reg_laws.specs.Narrowest.{looked_up};
 
+use crate::books::{add_sub, card_over, edit, exchange, size, use_less, use_more};
 use holder_book::HolderBook;
 use holding_book::HoldingBook;
 use num_range::{Range, Space};
 use piece_book::PieceBook;
-use reg_entry::{Card, Entry, Holder, Request, Rooms};
+use reg_entry::{Entry, Found, Piece, Request, Rooms, SubCard};
 use reg_laws::holders::next_entries_know_holders;
 use reg_laws::holdings::{
     holdings_are_bounded, next_entries_change_holdings, next_entries_take_what_is_held,
 };
+use reg_laws::narrowest::narrowest_is_looked_up;
 use reg_laws::next::next_entries_have_covers_and_cards;
 use reg_laws::painting::{
     next_entries_can_be_painted, next_entries_join_equal_pieces,
@@ -26,14 +23,18 @@ use reg_laws::reached::{
     entries_reach_registers, last_cards_change_inside_covers, reached_registers_are_whole,
     reached_registers_conserve, reached_registers_count,
 };
+use reg_laws::subs::next_entries_fit_subs;
+use reg_laws::usage::{next_entries_change_use, next_entries_take_what_is_used, use_is_bounded};
 use std::alloc::{AllocError, Global};
 use std::marker::Model;
+use sub_book::RangeBook;
 
 /// The register after the entries so far.
 #[derive(Drop)]
 pub struct Board {
     pieces: PieceBook,
     holders: HolderBook,
+    subs: RangeBook<SubCard>,
     holdings: HoldingBook,
     rooms: Rooms,
     entries: u64,
@@ -49,9 +50,9 @@ impl Model for Board {
     ghost Value = { PlainBoard };
 
     // No operations are kept yet.
-    ghost view = { λ b. record { register = register_of b.rooms b.entries b.first_day b.last_day b.pieces b.holders; serial = 0; kept = [] } };
+    ghost view = { λ b. record { register = register_of b.rooms b.entries b.first_day b.last_day b.pieces b.holders b.subs; serial = 0; kept = [] } };
 
-    ghost invariant = { λ b. IsKeptIn (register_of b.rooms b.entries b.first_day b.last_day b.pieces b.holders) b.pieces.room b.holders.room b.holdings };
+    ghost invariant = { λ b. IsKeptIn (register_of b.rooms b.entries b.first_day b.last_day b.pieces b.holders b.subs) b.pieces.room b.holders.room b.subs.room b.holdings };
 }
 
 /// The day of the first entry, once there was one more on a day.
@@ -61,56 +62,36 @@ fn first_day_after(entries: u64, first_day: u32, day: u32) -> u32
     if entries == 0 { day } else { first_day }
 }
 
-/// Gives the holder of a known handle other fields.
-fn edit(holders: &mut HolderBook, holder: &Holder, day: u32)
-    requires { IsSome (holder_number holders.old.holders holder.now.handle) }
-    ensures holders { holders.new.holders ≡ edited_holder holders.old.holders holder.now day }
-    ensures room { holders.new.room ≡ holders.old.room }
+/// What is found of the sub that the range lies inside, and of the piece that holds its first number.
+fn found(range: &Range, sub: Option<(Range, SubCard)>, piece: Option<Piece>) -> Option<Found>
+    ensures { result ≡ looked_up range.now sub piece }
 {
-    if let Some(number) = holders.by_handle(&holder.handle) {
-        holders.edit(number, holder, day);
+    let piece = piece?;
+    if let Some((sub, card)) = sub {
+        let parent = piece.range;
+        return Some(Found::Sub {
+            range: sub,
+            card,
+            parent,
+        });
     }
-}
-
-/// The card of the piece that holds the first number of the range.
-fn former_card(pieces: &PieceBook, range: &Range) -> Option<Card>
-    ensures { result ≡ card_of pieces.now.partition (first_number range.now) }
-{
-    Some(pieces.piece_at(range.first_number())?.card)
-}
-
-/// The numbers of the range, which had one card, have another.
-fn exchange(holdings: &mut HoldingBook, range: &Range, former: &Option<Card>, card: &Card)
-    requires known { (holder : ℕ) → gives_held holder card.now ≡ true → holder < length holdings.old.holdings }
-    requires held { (holder : ℕ) (space : TheSpace) → held_by holder space range.now former.now ≤ held_in holdings.old holder space }
-    requires allocated { (holder : ℕ) (space : TheSpace) → allocated_by holder space range.now former.now ≤ allocated_in holdings.old holder space }
-    requires held_fits { (holder : ℕ) (space : TheSpace) → held_in holdings.old holder space + held_by_card holder space range.now card.now < 2 ^ 128 }
-    requires allocated_fits { (holder : ℕ) (space : TheSpace)
-        → allocated_in holdings.old holder space + allocated_by_card holder space range.now card.now < 2 ^ 128 }
-    ensures held { (holder : ℕ) (space : TheSpace)
-        → held_in holdings.new holder space + held_by holder space range.now former.now
-        ≡ held_in holdings.old holder space + held_by_card holder space range.now card.now }
-    ensures allocated { (holder : ℕ) (space : TheSpace)
-        → allocated_in holdings.new holder space + allocated_by holder space range.now former.now
-        ≡ allocated_in holdings.old holder space + allocated_by_card holder space range.now card.now }
-    ensures count { length holdings.new.holdings ≡ length holdings.old.holdings }
-    ensures room { holdings.new.room ≡ holdings.old.room }
-{
-    if let Some(former) = former {
-        holdings.take(former, range);
+    if piece.card.status.is_delegated() && range.inside(&piece.range) {
+        Some(Found::Piece(piece))
+    } else {
+        None
     }
-    holdings.give(card, range);
 }
 
 impl Board {
     ghost use Rattle.reg_entry.specs.Register.{after_entry};
     ghost use Rattle.reg_entry.specs.Operations.{empty_board};
-    ghost use Rattle.reg_entry.specs.Sums.{held, allocated};
+    ghost use Rattle.num_range.specs.Range.{IsRange};
+    ghost use Rattle.reg_entry.specs.Sums.{held, allocated, used, narrowest};
     ghost use Rattle.reg_entry.specs.Next.{IsNextEntry};
     ghost use Rattle.reg_entry.specs.Whole.{IsWholeRegister};
     ghost use Rattle.std.specs.Prelude.{List};
     ghost use Rattle.reg_entry.specs.Entry.{PlainEntry};
-    ghost use Rattle.board.specs.Kinds.{is_of_pieces_or_holders};
+    ghost use Rattle.board.specs.Kinds.{asks_for_no_reverse};
     ghost use Rattle.board.specs.Conserved.{IsConservedBy, ChangesCards};
     ghost use Rattle.reg_laws.specs.Reached.{IsReached, IsRegisterOf};
 
@@ -122,6 +103,7 @@ impl Board {
         Ok(Board {
             pieces: PieceBook::with_room(alloc, rooms.pieces)?,
             holders: HolderBook::with_room(alloc, rooms.holders)?,
+            subs: RangeBook::with_room(alloc, rooms.subs)?,
             holdings: HoldingBook::with_room(alloc, rooms.holders)?,
             rooms,
             entries: 0,
@@ -133,7 +115,7 @@ impl Board {
     /// Takes in the next entry. Where legal entries gave the register, they and this one give the new one; of each number
     /// that lies outside the entry's cover the last card stays, and of every number where the entry cuts or joins pieces.
     pub fn apply(&mut self, e: &Entry)
-        requires kind { is_of_pieces_or_holders e.now.request ≡ true }
+        requires kind { asks_for_no_reverse e.now.request ≡ true }
         requires next { IsNextEntry self.old.register e.now }
         ensures register { self.new.register ≡ after_entry self.old.register e.now }
         ensures entries { (es : List PlainEntry) → IsRegisterOf self.old.register es
@@ -147,7 +129,7 @@ impl Board {
 
     /// Changes the books as the entry says.
     fn take_in(&mut self, e: &Entry)
-        requires kind { is_of_pieces_or_holders e.now.request ≡ true }
+        requires kind { asks_for_no_reverse e.now.request ≡ true }
         requires next { IsNextEntry self.old.register e.now }
         ensures { self.new.register ≡ after_entry self.old.register e.now }
     {
@@ -162,6 +144,10 @@ impl Board {
         next_entries_change_holdings();
         next_entries_take_what_is_held();
         holdings_are_bounded();
+        next_entries_fit_subs();
+        next_entries_change_use();
+        next_entries_take_what_is_used();
+        use_is_bounded();
         self.first_day = first_day_after(self.entries, self.first_day, e.day);
         self.last_day = e.day;
         self.entries += 1;
@@ -177,11 +163,22 @@ impl Board {
             Request::Join { at } => {
                 self.pieces.join(*at);
             }
+            Request::SubAssign { range, handle } => {
+                let card = card_over(&self.pieces, range);
+                use_more(&mut self.holdings, range, &card, size(range));
+                add_sub(&mut self.subs, &self.holders, range, handle, e.day);
+            }
+            Request::SubReturn { range } => {
+                let card = card_over(&self.pieces, range);
+                use_less(&mut self.holdings, range, &card, size(range));
+                self.subs.take_out(range);
+            }
             _ => {
                 if let Some(card) = &e.card {
                     if let Some(range) = &e.cover {
-                        let former = former_card(&self.pieces, range);
-                        exchange(&mut self.holdings, range, &former, card);
+                        let former = card_over(&self.pieces, range);
+                        let used = self.subs.numbers_inside(range);
+                        exchange(&mut self.holdings, range, &former, card, used);
                         self.pieces.lay(range, card);
                     }
                 }
@@ -203,6 +200,29 @@ impl Board {
         self.holdings.allocated(holder, space)
     }
 
+    /// How many of these are used: the numbers of the subs in them, whoever holds the subs.
+    pub fn used(&self, holder: u32, space: Space) -> u128
+        ensures { result ≡ used self.now.register holder space }
+    {
+        self.holdings.used(holder, space)
+    }
+
+    /// Of the delegated pieces and the subs that have all numbers of the range, the one of least size, and the sub where two
+    /// have one size (RFC 9082 3.1.1). It is one look-up in the subs and one in the pieces.
+    pub fn narrow(&self, range: &Range) -> Option<Found>
+        ensures { result ≡ narrowest self.now.register range.now }
+    {
+        // A law: this is what is found so.
+        narrowest_is_looked_up();
+        self.is_whole();
+        let _first = range.first();
+        found(
+            range,
+            self.subs.enclosing(range),
+            self.pieces.piece_at(range.first_number()),
+        )
+    }
+
     /// The pieces of the three spaces.
     pub fn pieces(&self) -> &PieceBook
         ensures pool { result.now.partition ≡ self.now.register.pool }
@@ -217,6 +237,14 @@ impl Board {
         ensures room { result.now.room ≡ self.now.register.rooms.holders }
     {
         &self.holders
+    }
+
+    /// The sub-assignments, by their ranges.
+    pub fn subs(&self) -> &RangeBook<SubCard>
+        ensures subs { result.now.ranges ≡ self.now.register.subs }
+        ensures room { result.now.room ≡ self.now.register.rooms.subs }
+    {
+        &self.subs
     }
 
     /// How many entries there are.
@@ -282,10 +310,9 @@ impl Board {
         self.rooms
     }
 
-    /// Tells that there are no subs and no reverse entries yet.
-    pub fn has_no_subs(&self)
-        ensures subs { self.now.register.subs ≡ [] }
-        ensures reverses { self.now.register.reverses ≡ [] }
+    /// Tells that there are no reverse entries yet.
+    pub fn has_no_reverses(&self)
+        ensures { self.now.register.reverses ≡ [] }
     {
         let _ = &self.rooms;
     }

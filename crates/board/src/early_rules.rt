@@ -1,9 +1,9 @@
 //! Whether the register knows what a request speaks of, and it may be asked of it.
 ghost use Rattle.std.specs.Prelude.{◌≡◌, true};
 ghost use Rattle.num_range.specs.Range.{PlainRange};
-ghost use Rattle.reg_entry.specs.declared.request.Request.TheVariants.{Return, Transfer, Split, Join};
+ghost use Rattle.reg_entry.specs.declared.request.Request.TheVariants.{SubAssign, Return, Transfer, Split, Join};
 ghost use Rattle.reg_entry.specs.Decision.{first_of, early_rules};
-ghost use Rattle.board.specs.Kinds.{is_of_pieces_or_holders};
+ghost use Rattle.board.specs.Kinds.{asks_for_no_reverse};
 
 use crate::Board;
 use crate::conditions::begins_space;
@@ -12,6 +12,16 @@ use num_range::{Number, Range};
 use reg_entry::{Handle, Refusal, Request, Status};
 
 impl Board {
+    fn sub_assign_refusal(&self, range: &Range, handle: &Handle) -> Option<Refusal>
+        ensures { result ≡ first_of (early_rules self.now.register (SubAssign range.now handle.now)) }
+    {
+        self.outside_pool(range)
+            .or_else(|| self.not_in_one_piece(range))
+            .or_else(|| self.not_of_status(range.first_number(), Status::Allocated))
+            .or_else(|| self.unknown_holder(handle))
+            .or_else(|| self.meets_sub(range))
+    }
+
     fn return_refusal(&self, range: &Range, handle: &Handle) -> Option<Refusal>
         ensures { result ≡ first_of (early_rules self.now.register (Return range.now handle.now)) }
     {
@@ -54,7 +64,7 @@ impl Board {
 
     /// Why the register can't do what is asked for, whatever the day and whatever the policy says, or nothing.
     pub fn early_refusal(&self, request: &Request) -> Option<Refusal>
-        requires { is_of_pieces_or_holders request.now ≡ true }
+        requires { asks_for_no_reverse request.now ≡ true }
         ensures { result ≡ first_of (early_rules self.now.register request.now) }
     {
         match request {
@@ -72,6 +82,8 @@ impl Board {
                 .outside_pool(range)
                 .or_else(|| self.not_one_piece(range))
                 .or_else(|| self.not_of_status(range.first_number(), Status::Reserved)),
+            Request::SubAssign { range, handle } => self.sub_assign_refusal(range, handle),
+            Request::SubReturn { range } => self.no_sub(range),
             Request::Return { range, handle } => self.return_refusal(range, handle),
             Request::Release { range } => self
                 .outside_pool(range)
@@ -80,10 +92,7 @@ impl Board {
             Request::Split { at } => self.split_refusal(*at),
             Request::Join { at } => self.join_refusal(*at),
             Request::Transfer { range, from, to } => self.transfer_refusal(range, from, to),
-            Request::SubAssign { .. }
-            | Request::SubReturn { .. }
-            | Request::SetReverse { .. }
-            | Request::ClearReverse { .. } => unreachable!(),
+            Request::SetReverse { .. } | Request::ClearReverse { .. } => unreachable!(),
         }
     }
 }

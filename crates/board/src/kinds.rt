@@ -1,17 +1,14 @@
 ghost use Rattle.std.specs.Prelude.{◌≡◌};
-ghost use Rattle.board.specs.Kinds.{is_of_pieces_or_holders};
+ghost use Rattle.board.specs.Kinds.{asks_for_no_reverse};
 
 use reg_entry::Request;
 
-/// Whether the request asks for no sub-assignment and for no reverse entry. The board takes in only such requests today.
-pub fn is_of_pieces_or_holders(request: &Request) -> bool
-    ensures { result ≡ is_of_pieces_or_holders request.now }
+/// Whether the request neither sets nor clears a reverse entry. The board takes in only such requests today.
+pub fn asks_for_no_reverse(request: &Request) -> bool
+    ensures { result ≡ asks_for_no_reverse request.now }
 {
     !matches!(
         request,
-        Request::SubAssign { .. }
-            | Request::SubReturn { .. }
-            | Request::SetReverse { .. }
-            | Request::ClearReverse { .. }
+        Request::SetReverse { .. } | Request::ClearReverse { .. }
     )
 }

@@ -7,7 +7,7 @@ ghost use Rattle.reg_entry.specs.declared.refusal.Refusal.TheVariants.{RegisterF
 ghost use Rattle.reg_entry.specs.Partition.{piece_count};
 ghost use Rattle.reg_entry.specs.Register.{painted, reshaped};
 ghost use Rattle.std.specs.Prelude.{nat_lt};
-ghost use Rattle.board.specs.Kinds.{is_of_pieces_or_holders};
+ghost use Rattle.board.specs.Kinds.{asks_for_no_reverse};
 
 use crate::Board;
 use num_range::{Number, Range};
@@ -87,11 +87,10 @@ impl Board {
         cover: &Option<Range>,
         card: &Option<Card>,
     ) -> Option<Refusal>
-        requires kind { is_of_pieces_or_holders request.now ≡ true }
+        requires kind { asks_for_no_reverse request.now ≡ true }
         requires split { (at : PlainNumber) → request.now ≡ Split at → card.now ≡ None }
         ensures { result ≡ first_of (late_rules self.now.register request.now day cover.now card.now) }
     {
-        self.has_no_subs();
         match request {
             Request::Receive { .. } | Request::Reserve { .. } => self
                 .register_full(self.painted_count(cover, card))
@@ -100,9 +99,14 @@ impl Board {
             Request::Delegate { .. } => no_block(cover)
                 .or_else(|| self.register_full(self.painted_count(cover, card)))
                 .or_else(|| self.journal_full()),
+            Request::SubAssign { .. } => self.journal_full().or_else(|| self.subs_full()),
+            Request::Return { range, .. } => {
+                self.has_subs(range).or_else(|| self.journal_full())
+            }
             Request::Release { range } => self.not_due(range, day).or_else(|| self.journal_full()),
             Request::Split { at } => self
-                .register_full(self.split_count(*at))
+                .straddled(*at)
+                .or_else(|| self.register_full(self.split_count(*at)))
                 .or_else(|| self.journal_full()),
             Request::Transfer { range, .. } => {
                 self.within_hold_time(range, day)
@@ -110,12 +114,9 @@ impl Board {
             }
             Request::EditHolder { .. }
             | Request::Unreserve { .. }
-            | Request::Return { .. }
-            | Request::Join { .. } => self.journal_full(),
-            Request::SubAssign { .. }
             | Request::SubReturn { .. }
-            | Request::SetReverse { .. }
-            | Request::ClearReverse { .. } => unreachable!(),
+            | Request::Join { .. } => self.journal_full(),
+            Request::SetReverse { .. } | Request::ClearReverse { .. } => unreachable!(),
         }
     }
 }

@@ -2,6 +2,7 @@
 #![tactic(auto)]
 
 mod board;
+mod books;
 mod conditions;
 mod covers;
 mod early_rules;
@@ -9,9 +10,10 @@ mod kinds;
 mod late_rules;
 mod next;
 mod pooled;
+mod sub_conditions;
 #[cfg(test)]
 mod tests;
 
 pub use board::Board;
-pub use kinds::is_of_pieces_or_holders;
+pub use kinds::asks_for_no_reverse;
 pub use reg_entry::{Found, Rooms, SubCard};

@@ -1,6 +1,6 @@
 //! Registers that entries build one by one, each of them only where it may come next. The ranges are of 192.0.2.0/24
 //! (RFC 5737), by their last octets.
-use crate::{Board, is_of_pieces_or_holders};
+use crate::{Board, Found, asks_for_no_reverse};
 use num_range::{Number, Range, Space};
 use reg_entry::{
     Card, Cc, Delegation, Entry, Handle, Holder, Kind, Name, Request, Rooms, Status, Text,
@@ -198,10 +198,34 @@ fn transferred(day: u32, from: &[u8], to: &[u8], holder: u32, until: u32) -> Opt
     })
 }
 
+/// A range is sub-assigned to ORG-A, or taken back.
+fn sub_assigned(first: u128, last: u128) -> Option<Step> {
+    Some(Step {
+        day: DAY,
+        request: Request::SubAssign {
+            range: range(first, last)?,
+            handle: Handle::read(b"ORG-A")?,
+        },
+        cover: range(first, last),
+        card: None,
+    })
+}
+
+fn sub_returned(first: u128, last: u128) -> Option<Step> {
+    Some(Step {
+        day: DAY,
+        request: Request::SubReturn {
+            range: range(first, last)?,
+        },
+        cover: range(first, last),
+        card: None,
+    })
+}
+
 /// Takes an entry in where it may come next, and says whether it was.
 fn taken(board: &mut Board, step: &Option<Step>) -> Option<bool> {
     let step = step.as_ref()?;
-    if !is_of_pieces_or_holders(&step.request) {
+    if !asks_for_no_reverse(&step.request) {
         return None;
     }
     let entry = Entry {
@@ -298,6 +322,23 @@ fn transfers() -> [(Option<Step>, bool); 7] {
         (transferred(DAY, b"ORG-B", b"ORG-A", 0, HELD), false),
         (transferred(EARLIER, b"ORG-B", b"ORG-A", 0, HELD), false),
         (transferred(HELD - 1, b"ORG-B", b"ORG-A", 0, HELD), false),
+    ]
+}
+
+/// One sub takes all the room, and no split cuts it. The half of the allocation that has it goes to another holder.
+fn subs() -> [(Option<Step>, bool); 11] {
+    [
+        (added(b"ORG-B", b"Beta Net"), true),
+        (delegated(DAY, 25, 0, 127), true),
+        (sub_assigned(120, 130), false),
+        (sub_assigned(200, 200), false),
+        (sub_assigned(32, 63), true),
+        (sub_assigned(64, 95), false),
+        (sub_returned(0, 127), false),
+        (returned(0, 127, DUE), false),
+        (split(48), false),
+        (split(64), true),
+        (transferred(DAY, b"ORG-A", b"ORG-B", 1, HELD), true),
     ]
 }
 
@@ -415,5 +456,45 @@ fn rooms_are_kept(rt: HostRuntime) -> Result<(), Fail> {
     let mut board = Board::with_room(rt.alloc(), rooms)?;
     assert_eq!(rt; wrong_after(&mut board, &filling()), None);
     assert!(rt; is_full(&board, &rooms));
+    Ok(())
+}
+
+/// The first and the last octet of a range.
+type Octets = (u128, u128);
+
+fn octets(range: &Range) -> Option<Octets> {
+    Some((
+        range.first().checked_sub(NET)?,
+        range.last().checked_sub(NET)?,
+    ))
+}
+
+/// The registration that is found round a range, and the piece that a sub lies in.
+fn found(board: &Board, first: u128, last: u128) -> Option<(Octets, Option<Octets>)> {
+    match board.narrow(&range(first, last)?)? {
+        Found::Piece(piece) => Some((octets(&piece.range)?, None)),
+        Found::Sub { range, parent, .. } => Some((octets(&range)?, Some(octets(&parent)?))),
+    }
+}
+
+/// The sub is found where it has all of a range, and else the piece. Its numbers are used of what the piece's holder has,
+/// and no longer once it is taken back.
+fn has_subs(board: &mut Board) -> bool {
+    found(board, 40, 41) == Some(((32, 63), Some((0, 63))))
+        && found(board, 31, 41) == Some(((0, 63), None))
+        && found(board, 63, 64).is_none()
+        && found(board, 200, 200).is_none()
+        && (board.used(0, Space::Ipv4), board.used(1, Space::Ipv4)) == (0, 32)
+        && taken(board, &sub_returned(32, 63)) == Some(true)
+        && (board.used(1, Space::Ipv4), board.subs().len()) == (0, 0)
+        && taken(board, &sub_assigned(0, 63)) == Some(true)
+        && found(board, 0, 63) == Some(((0, 63), Some((0, 63))))
+}
+
+#[test]
+fn subs_are_assigned_found_and_taken_back(rt: HostRuntime) -> Result<(), Fail> {
+    let mut board = Board::with_room(rt.alloc(), ROOMS)?;
+    assert_eq!(rt; wrong_after(&mut board, &subs()), None);
+    assert!(rt; has_subs(&mut board));
     Ok(())
 }

@@ -4,18 +4,20 @@ ghost use Rattle.num_range.specs.Space.{same_space};
 ghost use Rattle.reg_entry.specs.declared.card.Status.TheVariants.{Allocated};
 ghost use Rattle.reg_entry.specs.Card.{same_status};
 ghost use Rattle.reg_entry.specs.Holdings.{gives_held, held_by_card, allocated_by_card};
-ghost use Rattle.holding_book.specs.Book.{of_space, with_space, held_in, allocated_in, holder_of};
+ghost use Rattle.holding_book.specs.Book.{of_space, with_space, held_in, allocated_in, used_in, used_of_card, holder_of, allocated_to};
 
 use num_range::{Range, Space};
 use reg_entry::{Card, Status};
 use std::alloc::{AllocError, Global};
 use std::marker::Model;
 
-/// Of the numbers of one space that a holder holds: how many they are, and how many of them are allocated.
+/// Of the numbers of one space that a holder holds: how many they are, how many of them are allocated, and how many of these
+/// are used.
 #[derive(Clone, Copy, Debug, PartialEq, Eq)]
 pub struct Held {
     pub held: u128,
     pub allocated: u128,
+    pub used: u128,
 }
 
 /// What a holder holds.
@@ -29,6 +31,7 @@ pub struct Holding {
 const NOTHING: Held = Held {
     held: 0,
     allocated: 0,
+    used: 0,
 };
 
 impl Holding {
@@ -59,6 +62,16 @@ fn holder_of(card: &Card) -> Option<u32>
 {
     match card.status {
         Status::Allocated | Status::Assigned => card.holder,
+        _ => None,
+    }
+}
+
+/// To whom the numbers with this card are allocated.
+fn allocated_to(card: &Card) -> Option<u32>
+    ensures { result ≡ allocated_to card.now }
+{
+    match card.status {
+        Status::Allocated => card.holder,
         _ => None,
     }
 }
@@ -112,6 +125,7 @@ impl HoldingBook {
         ensures held { (holder : ℕ) (space : TheSpace) → held_in self.new holder space ≡ held_in self.old holder space }
         ensures allocated { (holder : ℕ) (space : TheSpace)
             → allocated_in self.new holder space ≡ allocated_in self.old holder space }
+        ensures used { (holder : ℕ) (space : TheSpace) → used_in self.new holder space ≡ used_in self.old holder space }
         ensures room { self.new.room ≡ self.old.room }
     {
         self.holdings.push_reserved(Holding {
@@ -135,6 +149,13 @@ impl HoldingBook {
         self.numbers(holder, space).allocated
     }
 
+    /// How many of these are used, that is sub-assigned: 0 where there is no holder of this number.
+    pub fn used(&self, holder: u32, space: Space) -> u128
+        ensures { result ≡ used_in self.now holder space }
+    {
+        self.numbers(holder, space).used
+    }
+
     /// The numbers of the range have the card from now on.
     pub fn give(&mut self, card: &Card, range: &Range)
         requires known { (holder : ℕ) → gives_held holder card.now ≡ true → holder < length self.old.holdings }
@@ -147,6 +168,7 @@ impl HoldingBook {
         ensures allocated { (holder : ℕ) (space : TheSpace)
             → allocated_in self.new holder space
             ≡ allocated_in self.old holder space + allocated_by_card holder space range.now card.now }
+        ensures used { (holder : ℕ) (space : TheSpace) → used_in self.new holder space ≡ used_in self.old holder space }
         ensures count { length self.new.holdings ≡ length self.old.holdings }
         ensures room { self.new.room ≡ self.old.room }
     {
@@ -171,6 +193,7 @@ impl HoldingBook {
         ensures allocated { (holder : ℕ) (space : TheSpace)
             → allocated_in self.new holder space + allocated_by_card holder space range.now card.now
             ≡ allocated_in self.old holder space }
+        ensures used { (holder : ℕ) (space : TheSpace) → used_in self.new holder space ≡ used_in self.old holder space }
         ensures count { length self.new.holdings ≡ length self.old.holdings }
         ensures room { self.new.room ≡ self.old.room }
     {
@@ -184,10 +207,55 @@ impl HoldingBook {
         }
     }
 
+    /// Of the numbers of the range, which have the card, so many more are used.
+    pub fn use_more(&mut self, card: &Card, range: &Range, used: u128)
+        requires known { (holder : ℕ) → gives_held holder card.now ≡ true → holder < length self.old.holdings }
+        requires fits { (holder : ℕ) (space : TheSpace)
+            → used_in self.old holder space + used_of_card holder space range.now card.now used < 2 ^ 128 }
+        ensures held { (holder : ℕ) (space : TheSpace) → held_in self.new holder space ≡ held_in self.old holder space }
+        ensures allocated { (holder : ℕ) (space : TheSpace)
+            → allocated_in self.new holder space ≡ allocated_in self.old holder space }
+        ensures used { (holder : ℕ) (space : TheSpace)
+            → used_in self.new holder space
+            ≡ used_in self.old holder space + used_of_card holder space range.now card.now used }
+        ensures count { length self.new.holdings ≡ length self.old.holdings }
+        ensures room { self.new.room ≡ self.old.room }
+    {
+        if let Some(holder) = allocated_to(card) {
+            let space = range.space();
+            let mut numbers = self.numbers(holder, space);
+            numbers.used += used;
+            self.put(holder, space, numbers);
+        }
+    }
+
+    /// Of the numbers of the range, which have the card, so many are no longer used.
+    pub fn use_less(&mut self, card: &Card, range: &Range, used: u128)
+        requires { (holder : ℕ) (space : TheSpace)
+            → used_of_card holder space range.now card.now used ≤ used_in self.old holder space }
+        ensures held { (holder : ℕ) (space : TheSpace) → held_in self.new holder space ≡ held_in self.old holder space }
+        ensures allocated { (holder : ℕ) (space : TheSpace)
+            → allocated_in self.new holder space ≡ allocated_in self.old holder space }
+        ensures used { (holder : ℕ) (space : TheSpace)
+            → used_in self.new holder space + used_of_card holder space range.now card.now used ≡ used_in self.old holder space }
+        ensures count { length self.new.holdings ≡ length self.old.holdings }
+        ensures room { self.new.room ≡ self.old.room }
+    {
+        if let Some(holder) = allocated_to(card) {
+            if used > 0 {
+                let space = range.space();
+                let mut numbers = self.numbers(holder, space);
+                numbers.used -= used;
+                self.put(holder, space, numbers);
+            }
+        }
+    }
+
     /// What the holder has of the space.
     fn numbers(&self, holder: u32, space: Space) -> Held
         ensures held { result.held ≡ held_in self.now holder space }
         ensures allocated { result.allocated ≡ allocated_in self.now holder space }
+        ensures used { result.used ≡ used_in self.now holder space }
     {
         match self.holdings.get(holder as usize) {
             Some(holding) => holding.of(space),
@@ -204,6 +272,9 @@ impl HoldingBook {
         ensures allocated { (other : ℕ) (t : TheSpace)
             → allocated_in self.new other t
             ≡ (if nat_eq holder other && same_space space t then numbers.allocated else allocated_in self.old other t) }
+        ensures used { (other : ℕ) (t : TheSpace)
+            → used_in self.new other t
+            ≡ (if nat_eq holder other && same_space space t then numbers.used else used_in self.old other t) }
         ensures count { length self.new.holdings ≡ length self.old.holdings }
         ensures room { self.new.room ≡ self.old.room }
     {

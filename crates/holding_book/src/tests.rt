@@ -26,6 +26,16 @@ fn stand(book: &HoldingBook, rows: &[(u32, Space, u128, u128)]) -> bool {
     true
 }
 
+/// Whether each holder uses so many of the numbers of the space that are allocated to it.
+fn uses(book: &HoldingBook, rows: &[(u32, Space, u128)]) -> bool {
+    for (holder, space, used) in rows {
+        if book.used(*holder, *space) != *used {
+            return false;
+        }
+    }
+    true
+}
+
 #[test]
 fn holdings_follow_the_cards(rt: HostRuntime) -> Result<(), Fail> {
     let mut book = HoldingBook::with_room(rt.alloc(), 2)?;
@@ -63,6 +73,14 @@ fn holdings_follow_the_cards(rt: HostRuntime) -> Result<(), Fail> {
             ]
         )
     );
+
+    // Half of the net is used.
+    let half = Range::between(Space::Ipv4, 3221225984, 3221226111);
+    book.use_more(&allocated, &half, 128);
+    book.use_more(&assigned, &numbers, 16);
+    assert!(rt; uses(&book, &[(0, Space::Ipv4, 128), (0, Space::Ipv6, 0), (1, Space::Asn, 0)]));
+    book.use_less(&allocated, &half, 64);
+    assert!(rt; uses(&book, &[(0, Space::Ipv4, 64)]));
 
     // The net goes from the one holder to the other.
     book.take(&allocated, &net);

@@ -14,7 +14,7 @@ use Rattle.reg_entry.specs.Policy.{PlainPolicy, IsPolicy}
 use Rattle.reg_entry.specs.Register.{Register, after_entry, after_entries}
 use Rattle.reg_entry.specs.Request.{is_request}
 use Rattle.reg_entry.specs.Whole.{IsWholeRegister}
-use Rattle.board.specs.Kinds.{is_of_pieces_or_holders}
+use Rattle.board.specs.Kinds.{asks_for_no_reverse}
 use Rattle.desk_lang.specs.declared.line.Line.{Line}
 use Rattle.desk_lang.specs.declared.line.Line.TheVariants.{Request, Show, Due, Day, By, Nothing}
 use Rattle.desk_lang.specs.declared.rest.Malformed.{Malformed}
@@ -75,7 +75,7 @@ module _
   decided_next s request good is =
       let whole = good.whole in
       let days = whole.days in
-      refused_or (is_of_pieces_or_holders request) _ _ _
+      refused_or (asks_for_no_reverse request) _ _ _
       (accept s.register s.policy s.day s.who request whole.pieces days.1 good.policy is)
 
   legal_of_line : (s : PlainSession) (line : Result Line Malformed) (more : List (List ℕ)) → IsGood s → IfOk line IsValidLine

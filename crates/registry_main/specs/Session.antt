@@ -13,7 +13,7 @@ use Rattle.reg_entry.specs.Entry.{PlainEntry}
 use Rattle.reg_entry.specs.Holders.{handle_of}
 use Rattle.reg_entry.specs.Policy.{PlainPolicy}
 use Rattle.reg_entry.specs.Register.{Register, register_after, after_entry, piece_of}
-use Rattle.board.specs.Kinds.{is_of_pieces_or_holders}
+use Rattle.board.specs.Kinds.{asks_for_no_reverse}
 use Rattle.quarantine.specs.Due.{due_pieces}
 use Rattle.desk_lang.specs.declared.line.Line.{Line}
 use Rattle.desk_lang.specs.declared.line.Line.TheVariants.{Request, Show, Due, Day, By, Nothing}
@@ -55,10 +55,10 @@ by_name s who = record { register = s.register; policy = s.policy; day = s.day; 
 
 -- ---- requests
 
--- what becomes of a request; those on sub-assignments and reverse entries aren't decided here
+-- what becomes of a request; those that set or clear a reverse entry aren't decided here
 abbrev pub decided : PlainSession → ARequest → Reply
 decided s request =
-    if is_of_pieces_or_holders request then decision s.register s.policy s.day s.who request else Refused (refusals.Malformed 1)
+    if asks_for_no_reverse request then decision s.register s.policy s.day s.who request else Refused (refusals.Malformed 1)
 
 -- the session after a reply: an accepted entry joins the register
 abbrev pub after_reply : PlainSession → Reply → PlainSession

@@ -10,7 +10,7 @@ ghost use Rattle.registry_main.specs.declared.answer.Answer.TheVariants.{Shown};
 ghost use Rattle.registry_main.specs.Session.{new_session, decided, after_reply, shown_text, step_of, answered};
 
 use crate::answer::Answer;
-use board::{Board, is_of_pieces_or_holders};
+use board::{Board, asks_for_no_reverse};
 use desk_lang::{Line, read_line};
 use num_range::Number;
 use piece_book::PieceBook;
@@ -89,7 +89,7 @@ impl Session {
         ensures date { ReplyHasDate result }
     {
         self.board.is_whole();
-        if !is_of_pieces_or_holders(request) {
+        if !asks_for_no_reverse(request) {
             return malformed(1);
         }
         let reply = decide(&self.board, &self.policy, self.day, &self.who, request);

@@ -77,11 +77,8 @@ fn hundredths(amount: u128, percent: u32) -> u128
 fn under_used(board: &Board, row: &Row, space: Space, handle: &Handle) -> Option<Refusal>
     ensures { result ≡ under_used board.now.register row.now space handle.now }
 {
-    // There are no sub-assignments yet.
-    board.has_no_subs();
-    let used = 0;
     let number = board.holders().by_handle(handle)?;
-    let held = board.allocated(number, space);
+    let (used, held) = (board.used(number, space), board.allocated(number, space));
     Refusal::UnderUsed { used, held }.when(0 < held && used < hundredths(held, row.percent))
 }
 

@@ -1,5 +1,5 @@
 use crate::decide;
-use board::{Board, is_of_pieces_or_holders};
+use board::{Board, asks_for_no_reverse};
 use num_range::{Number, Range, Space};
 use policy_table::Policy;
 use reg_entry::{
@@ -61,7 +61,7 @@ fn answer(
     who: &Name,
     request: &Request,
 ) -> Option<Reply> {
-    if !is_of_pieces_or_holders(request) {
+    if !asks_for_no_reverse(request) {
         return None;
     }
     Some(decide(board, policy, day, who, request))
@@ -166,7 +166,7 @@ fn requests_of_an_empty_register(rt: HostRuntime) -> Result<(), Fail> {
 
 /// Why the request is refused, or nothing where it is accepted and taken in.
 fn taken(board: &mut Board, policy: &Policy, who: &Name, request: &Request) -> Option<Refusal> {
-    if !is_of_pieces_or_holders(request) {
+    if !asks_for_no_reverse(request) {
         return Some(Refusal::NoSub);
     }
     match decide(board, policy, TODAY, who, request) {

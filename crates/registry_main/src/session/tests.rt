@@ -21,11 +21,9 @@ holder ORG-E enduser FR "Eve" "e@e.example"
 
 /// A line a row: the refusals whose rules are against the request, the situation, what is accepted before, the request,
 /// and why it is refused. In a tight situation one holder may hold 128 allocated numbers, of which it has to sub-assign
-/// four fifths; the register has no room for more pieces, holders or entries where the situation names them.
+/// four fifths; the register has no room for more pieces, holders, subs or entries where the situation names them.
 const ROWS: &str = r#"
 N1 | | | delegate ipv4 /33 allocated ORG-A | N1 Malformed 15
-N1 | | | sub 192.0.2.32/27 ORG-A | N1 Malformed 1
-N1 | | | unsub 192.0.2.0/27 | N1 Malformed 1
 N1 | | | reverse 192.0.2.0/25 ns1.alpha.example | N1 Malformed 1
 N1 | | | unreverse 192.0.2.0/25 | N1 Malformed 1
 
@@ -34,6 +32,10 @@ N2 N10 N11 N13 N14 N32 | entries | by nobody | return 192.0.2.0-192.0.3.0 ORG-X 
 N2 N12 N13 | | by nobody | return 192.0.2.128/25 ORG-X | N2 UnknownHostmaster
 N2 N15 N31 N32 | holders entries | by nobody | holder ORG-A lir DE "Alpha Net" "noc@alpha.example" | N2 UnknownHostmaster
 N2 N16 N30 | pieces | by nobody | receive 192.0.2.64-192.0.2.70 | N2 UnknownHostmaster
+N2 N10 N11 N13 N16 N32 N33 | entries subs | sub 192.0.2.32/27 ORG-A; by nobody | sub 192.0.2.32-192.0.3.0 ORG-X | N2 UnknownHostmaster
+N2 N17 | | by nobody | unsub 192.0.2.0/27 | N2 UnknownHostmaster
+N2 N26 N32 | entries | sub 192.0.2.32/27 ORG-A; by nobody | return 192.0.2.0/25 ORG-A | N2 UnknownHostmaster
+N2 N27 N30 | pieces | sub 192.0.2.32/27 ORG-A; by nobody | split 192.0.2.48 | N2 UnknownHostmaster
 N2 N19 | | delegate ipv4 /26 allocated ORG-B; by nobody | join 192.0.2.128 | N2 UnknownHostmaster
 N2 N20 N21 N22 N23 N28 | tight | edit ORG-A enduser DE "Alpha" "a@alpha.example"; by nobody | delegate ipv4 /19 allocated ORG-A | N2 UnknownHostmaster
 N2 N24 | | transfer 192.0.2.0/25 ORG-A ORG-B; by nobody | transfer 192.0.2.0/25 ORG-B ORG-A | N2 UnknownHostmaster
@@ -44,8 +46,13 @@ N10 | | | reserve 192.0.3.0 | N10 OutsidePool 192.0.3.0
 N10 | | | split 192.0.3.0 | N10 OutsidePool 192.0.3.0
 N10 | | | join 0.0.0.0 | N10 OutsidePool 0.0.0.0
 N10 | | | join 192.0.3.0 | N10 OutsidePool 192.0.3.0
+N10 | | | sub 192.0.3.0 ORG-A | N10 OutsidePool 192.0.3.0
+N10 N11 N12 N13 N32 N33 | entries subs | sub 192.0.2.32/27 ORG-A | sub 192.0.2.200-192.0.3.0 ORG-X | N10 OutsidePool 192.0.3.0
+N10 N11 N13 N16 | | sub 192.0.2.32/27 ORG-A | sub 192.0.2.32-192.0.3.0 ORG-X | N10 OutsidePool 192.0.3.0
+N10 N11 N13 N26 | | sub 192.0.2.32/27 ORG-A | return 192.0.2.0-192.0.3.0 ORG-X | N10 OutsidePool 192.0.3.0
 N10 N11 N12 N30 N32 | pieces entries | delegate ipv4 /25 allocated ORG-B | reserve 192.0.2.250-192.0.3.0 | N10 OutsidePool 192.0.3.0
-N10 N11 N13 N14 N21 N22 N24 | tight | delegate ipv4 /26 assigned ORG-E; transfer 192.0.2.0/25 ORG-A ORG-B | transfer 192.0.2.0-192.0.3.0 ORG-X ORG-E | N10 OutsidePool 192.0.3.0
+N10 N11 N13 N14 N26 N32 | entries | sub 192.0.2.32/27 ORG-A | return 192.0.2.0/25 ORG-B | N14 NotHolder ORG-A
+N14 N21 N22 N24 | tight | delegate ipv4 /26 assigned ORG-E; transfer 192.0.2.0/25 ORG-A ORG-B | transfer 192.0.2.0-192.0.3.0 ORG-X ORG-E | N10 OutsidePool 192.0.3.0
 N10 N11 N25 | | return 192.0.2.0/25 ORG-A | release 192.0.2.0-192.0.3.0 | N10 OutsidePool 192.0.3.0
 N10 N12 | | receive 198.51.100.0/24 | join 198.51.100.0 | N10 OutsidePool 198.51.99.255
 N10 N16 | | receive 3fff::/16 | receive 3fff::-4000:: | N10 OutsidePool 4000::
@@ -55,6 +62,11 @@ N11 | | reserve 192.0.2.255 | reserve 192.0.2.200-192.0.2.255 | N11 NotOnePiece 
 N11 | | | return 192.0.2.0/26 ORG-A | N11 NotOnePiece 192.0.2.0 - 192.0.2.127
 N11 | | | split 192.0.2.0 | N11 NotOnePiece 192.0.2.0 - 192.0.2.127
 N11 | | | join 192.0.2.1 | N11 NotOnePiece 192.0.2.0 - 192.0.2.127
+N11 | | | sub 192.0.2.120-192.0.2.130 ORG-A | N11 NotOnePiece 192.0.2.0 - 192.0.2.127
+N11 N13 N16 N32 N33 | entries subs | sub 192.0.2.112/28 ORG-A | sub 192.0.2.120-192.0.2.130 ORG-X | N11 NotOnePiece 192.0.2.0 - 192.0.2.127
+N11 N12 N16 N33 | subs | receive 192.0.1.0/24; sub 192.0.2.0/27 ORG-A | sub 192.0.1.255-192.0.2.0 ORG-A | N11 NotOnePiece 192.0.1.0 - 192.0.1.255
+N11 N14 N26 N32 | entries | sub 192.0.2.32/27 ORG-A | return 192.0.2.0/26 ORG-B | N11 NotOnePiece 192.0.2.0 - 192.0.2.127
+N11 N12 N13 N26 | | receive 192.0.1.0/24; sub 192.0.2.32/27 ORG-A | return 192.0.1.0-192.0.2.127 ORG-X | N11 NotOnePiece 192.0.1.0 - 192.0.1.255
 N11 N12 N13 | | | return 192.0.2.128/26 ORG-X | N11 NotOnePiece 192.0.2.128 - 192.0.2.255
 N11 N12 N30 | pieces | | reserve 192.0.2.120-192.0.2.130 | N11 NotOnePiece 192.0.2.0 - 192.0.2.127
 N11 N12 | | | unreserve 192.0.2.0/26 | N11 NotOnePiece 192.0.2.0 - 192.0.2.127
@@ -67,6 +79,8 @@ N12 | | | reserve 192.0.2.5 | N12 WrongStatus allocated
 N12 | | | unreserve 192.0.2.128/25 | N12 WrongStatus available
 N12 | | | release 192.0.2.0/25 | N12 WrongStatus allocated
 N12 | | | split 192.0.2.200 | N12 WrongStatus available
+N12 | | delegate ipv4 /26 assigned ORG-E | sub 192.0.2.128 ORG-E | N12 WrongStatus assigned
+N12 N13 N32 N33 | entries subs | sub 192.0.2.32/27 ORG-A | sub 192.0.2.200 ORG-X | N12 WrongStatus available
 N12 N13 N32 | entries | | return 192.0.2.128/25 ORG-X | N12 WrongStatus available
 N12 N13 N24 | | return 192.0.2.0/25 ORG-A | transfer 192.0.2.0/25 ORG-X ORG-B | N12 WrongStatus quarantine
 N12 N19 | | | join 192.0.2.128 | N12 WrongStatus available
@@ -77,6 +91,9 @@ N12 N30 | pieces | | split 192.0.2.200 | N12 WrongStatus available
 N13 | | | edit ORG-X lir FR "X" "x@x.example" | N13 UnknownHolder ORG-X
 N13 | | | delegate ipv4 /26 assigned ORG-X | N13 UnknownHolder ORG-X
 N13 | | | transfer 192.0.2.0/25 ORG-A ORG-X | N13 UnknownHolder ORG-X
+N13 | | | sub 192.0.2.32/27 ORG-X | N13 UnknownHolder ORG-X
+N13 N16 N32 N33 | entries subs | sub 192.0.2.32/27 ORG-A | sub 192.0.2.32/28 ORG-X | N13 UnknownHolder ORG-X
+N13 N14 N26 N32 | entries | sub 192.0.2.32/27 ORG-A | return 192.0.2.0/25 ORG-X | N13 UnknownHolder ORG-X
 N13 N14 | | | return 192.0.2.0/25 ORG-X | N13 UnknownHolder ORG-X
 N13 N14 | | | transfer 192.0.2.0/25 ORG-X ORG-Y | N13 UnknownHolder ORG-X
 N13 N14 | | | transfer 192.0.2.0/25 ORG-B ORG-Y | N13 UnknownHolder ORG-Y
@@ -93,6 +110,12 @@ N15 N31 N32 | holders entries | | holder ORG-B lir FR "Beta Net" "noc@beta.examp
 
 N16 | | | receive 192.0.2.255-192.0.3.10 | N16 Overlap 192.0.2.255
 N16 N30 N32 | pieces entries | | receive 192.0.2.64-192.0.2.70 | N16 Overlap 192.0.2.64
+N16 | | sub 192.0.2.32/27 ORG-A | sub 192.0.2.63-192.0.2.70 ORG-B | N16 Overlap 192.0.2.63
+N16 N32 N33 | entries subs | sub 192.0.2.32/27 ORG-A | sub 192.0.2.0-192.0.2.40 ORG-A | N16 Overlap 192.0.2.32
+
+N17 | | | unsub 192.0.2.0/27 | N17 NoSub
+N17 | | sub 192.0.2.0/27 ORG-A | unsub 192.0.2.0/26 | N17 NoSub
+N17 N32 | entries | sub 192.0.2.0/27 ORG-A | unsub 192.0.2.0/28 | N17 NoSub
 
 N19 | | delegate ipv4 /26 allocated ORG-B | join 192.0.2.128 | N19 CardsDiffer 192.0.2.0 - 192.0.2.127
 N19 N32 | entries | delegate ipv4 /26 allocated ORG-B | join 192.0.2.128 | N19 CardsDiffer 192.0.2.0 - 192.0.2.127
@@ -117,11 +140,19 @@ N22 N24 N32 | tight entries | transfer 192.0.2.0/25 ORG-A ORG-B; delegate ipv4 /
 N23 | tight | delegate ipv4 /26 allocated ORG-B | delegate ipv4 /26 allocated ORG-B | N23 UnderUsed 0 64
 N23 N28 N32 | tight entries | delegate ipv4 /26 allocated ORG-B; reserve 192.0.2.192/26 | delegate ipv4 /26 allocated ORG-B | N23 UnderUsed 0 64
 N23 N30 | tight pieces | delegate ipv4 /26 allocated ORG-B | delegate ipv4 /27 allocated ORG-B | N23 UnderUsed 0 64
+N23 | tight | delegate ipv4 /26 allocated ORG-B; sub 192.0.2.128-192.0.2.177 ORG-A | delegate ipv4 /26 allocated ORG-B | N23 UnderUsed 50 64
+N23 | tight | delegate ipv4 /26 allocated ORG-B; sub 192.0.2.128/26 ORG-A; unsub 192.0.2.128/26 | delegate ipv4 /26 allocated ORG-B | N23 UnderUsed 0 64
+N23 | tight | holder ORG-C lir NL "Gamma Net" "noc@gamma.example"; delegate ipv4 /27 allocated ORG-B; sub 192.0.2.128-192.0.2.140 ORG-A; transfer 192.0.2.128/27 ORG-B ORG-C | delegate ipv4 /27 allocated ORG-C | N23 UnderUsed 13 32
+N23 N28 N32 | tight entries | delegate ipv4 /26 allocated ORG-B; sub 192.0.2.128-192.0.2.177 ORG-A; reserve 192.0.2.192/26 | delegate ipv4 /26 allocated ORG-B | N23 UnderUsed 50 64
 
 N24 | | transfer 192.0.2.0/25 ORG-A ORG-B; day 20250228 | transfer 192.0.2.0/25 ORG-B ORG-A | N24 HoldTime 20250301
 N24 N32 | entries | transfer 192.0.2.0/25 ORG-A ORG-B | transfer 192.0.2.0/25 ORG-B ORG-A | N24 HoldTime 20250301
 N25 | | return 192.0.2.0/25 ORG-A; day 20240330 | release 192.0.2.0/25 | N25 NotDue 20240331
 N25 N32 | entries | return 192.0.2.0/25 ORG-A | release 192.0.2.0/25 | N25 NotDue 20240331
+N26 | | sub 192.0.2.0/27 ORG-A; sub 192.0.2.64 ORG-B | return 192.0.2.0/25 ORG-A | N26 HasSubs 2
+N26 N32 | entries | sub 192.0.2.32/27 ORG-A | return 192.0.2.0/25 ORG-A | N26 HasSubs 1
+N27 | | sub 192.0.2.32/27 ORG-A | split 192.0.2.63 | N27 Straddled 192.0.2.32 - 192.0.2.63
+N27 N30 N32 | pieces entries | sub 192.0.2.32/27 ORG-A | split 192.0.2.48 | N27 Straddled 192.0.2.32 - 192.0.2.63
 N28 | | | delegate ipv4 /24 allocated ORG-B | N28 NoBlock
 N28 N32 | entries | | delegate ipv4 /24 allocated ORG-B | N28 NoBlock
 N30 | pieces | | reserve 192.0.2.200 | N30 RegisterFull 4 2
@@ -130,6 +161,9 @@ N30 N32 | pieces entries | | delegate ipv4 /26 allocated ORG-B | N30 RegisterFul
 N31 | holders | | holder ORG-C lir NL "Gamma Net" "noc@gamma.example" | N31 HoldersFull 3
 N31 N32 | holders entries | | holder ORG-C lir NL "Gamma Net" "noc@gamma.example" | N31 HoldersFull 3
 N32 | entries | | edit ORG-A lir DE "Alpha" "a@alpha.example" | N32 JournalFull 5
+N32 | entries | sub 192.0.2.32/27 ORG-A | unsub 192.0.2.32/27 | N32 JournalFull 6
+N32 N33 | entries subs | sub 192.0.2.32/27 ORG-A | sub 192.0.2.64/27 ORG-A | N32 JournalFull 6
+N33 | subs | sub 192.0.2.32/27 ORG-A | sub 192.0.2.64/27 ORG-A | N33 SubsFull 1
 N32 | entries | return 192.0.2.0/25 ORG-A; day 20240331 | release 192.0.2.0/25 | N32 JournalFull 6
 "#;
 
@@ -206,6 +240,7 @@ fn rooms_in(situation: &str, session: &Session) -> Rooms
     Rooms {
         pieces: room(situation.contains("pieces"), pieces, ROOMS.pieces),
         holders: room(situation.contains("holders"), holders, ROOMS.holders),
+        subs: room(situation.contains("subs"), board.subs().len(), ROOMS.subs),
         entries: u64::from(room(situation.contains("entries"), entries, 1_000_000)),
         ..ROOMS
     }

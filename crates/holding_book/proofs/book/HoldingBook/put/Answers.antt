@@ -11,3 +11,8 @@ pub returns-clause-allocated : goal.returns-clause-allocated
 returns-clause-allocated c = λ other t.
     put_counts (λ x. x.allocated) c.args.self.now c.self.inside.holdings.items c.args.holder other c.index.result.now c.with.result c.args.space t c.args.numbers
     (search rules) c.index.ensures c.requires c.with.ensures
+
+pub returns-clause-used : goal.returns-clause-used
+returns-clause-used c = λ other t.
+    put_counts (λ x. x.used) c.args.self.now c.self.inside.holdings.items c.args.holder other c.index.result.now c.with.result c.args.space t c.args.numbers
+    (search rules) c.index.ensures c.requires c.with.ensures
