@@ -7,6 +7,7 @@ mod covers;
 mod early_rules;
 mod kinds;
 mod late_rules;
+mod lens;
 mod next;
 mod pooled;
 #[cfg(test)]
@@ -14,4 +15,5 @@ mod tests;
 
 pub use board::Board;
 pub use kinds::is_of_pieces_or_holders;
+pub use lens::{Answer, Body, Lens, Media};
 pub use reg_entry::{Found, Rooms, SubCard};
