@@ -20,12 +20,12 @@ search_length zero len k size all within least most = omega arith
 search_length (suc lengths_left) len k size all within least most = elim (cases_lt k (128 - len)) [
   | inl lt ↦
       cond-false (nat_le (block_size Ipv6 len) size) len (first_length lengths_left (len + 1) size)
-          (lt-leb (block_size Ipv6 len) size (larger (128 - len) k size lt most))
+      (lt-leb (block_size Ipv6 len) size (larger (128 - len) k size lt most))
       ∙ search_length lengths_left (len + 1) k size (omega arith) (omega arith) least most
   | inr ge ↦
       let same : k ≡ 128 - len = omega arith in
       cond-true (nat_le (block_size Ipv6 len) size) len (first_length lengths_left (len + 1) size)
-          (le-leb (block_size Ipv6 len) size (subst (λ j. 2 ^ j ≤ size) same least))
+      (le-leb (block_size Ipv6 len) size (subst (λ j. 2 ^ j ≤ size) same least))
       ∙ (omega arith)
 ]
 

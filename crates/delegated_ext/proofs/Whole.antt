@@ -49,4 +49,4 @@ file_of_parts registry r u v w x y none head asn ipv4 ipv6 =
     ∙ ap (λ (t : List ℕ). t ++ (head_text registry r ++ (space_text registry r Asn ++ (space_text registry r Ipv4 ++ space_text registry r Ipv6)))) none
     ∙ sym (ap (λ (t : List ℕ). head_text registry r ++ t) (texts_of_spaces (record_text registry r.holders) r))
     ∙ joined (version_line registry r) (summary_of registry r Asn) (summary_of registry r Ipv4) (summary_of registry r Ipv6)
-        (flat_map (record_text registry r.holders) (record_lines r))
+    (flat_map (record_text registry r.holders) (record_lines r))

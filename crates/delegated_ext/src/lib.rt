@@ -10,6 +10,8 @@ mod record_text;
 mod records;
 mod statistics;
 mod stats_lens;
+#[cfg(test)]
+mod tests;
 
 pub use record_line::RecordLine;
 pub use statistics::write_stats;

@@ -74,11 +74,7 @@ fn append_summary(
 }
 
 /// Appends the version line and the three summary lines, which count the records before any is written.
-fn append_head(
-    registry: &Name,
-    board: &Board,
-    body: &mut Body,
-) -> Result<(), AllocError>
+fn append_head(registry: &Name, board: &Board, body: &mut Body) -> Result<(), AllocError>
     ensures { OnOk result (body.new ≡ body.old ++ (version_line registry.now board.now.register
         ++ (summary_of registry.now board.now.register TheAsn ++ (summary_of registry.now board.now.register TheIpv4 ++ summary_of registry.now board.now.register TheIpv6)))) }
 {

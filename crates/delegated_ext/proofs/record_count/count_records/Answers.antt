@@ -5,7 +5,7 @@ use Rattle.delegated_ext.proofs.record_count.count_records.Goals as goal
 pub loop-piece-init : goal.loop-piece-init
 loop-piece-init c =
     none_counted c.args.pieces.now.partition c.args.space c.args.pieces.now.room c.into_iter-piece-iterator.result c.cover_is_least.ensures.few
-        c.are_pieces.ensures.within c.are_pieces.ensures.bound (c.into_iter-piece-iterator.ensures.into_iter_gives ∙ c.walk-piece-items.ensures.pieces)
+    c.are_pieces.ensures.within c.are_pieces.ensures.bound (c.into_iter-piece-iterator.ensures.into_iter_gives ∙ c.walk-piece-items.ensures.pieces)
 
 pub overflow_add-count : goal.overflow_add-count
 overflow_add-count c =
