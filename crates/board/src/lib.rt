@@ -8,6 +8,7 @@ mod covers;
 mod early_rules;
 mod kinds;
 mod late_rules;
+mod lens;
 mod next;
 mod pooled;
 mod sub_conditions;
@@ -16,4 +17,5 @@ mod tests;
 
 pub use board::Board;
 pub use kinds::asks_for_no_reverse;
+pub use lens::{Answer, Body, Lens, Media};
 pub use reg_entry::{Found, Rooms, SubCard};

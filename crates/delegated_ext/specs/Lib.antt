@@ -1,3 +1,5 @@
 pub mod Records
 pub mod Conserved
 pub mod StatisticsText
+pub mod Writable
+pub mod StatisticsAnswer

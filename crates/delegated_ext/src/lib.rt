@@ -2,7 +2,17 @@
 //! reports.
 #![tactic(auto)]
 
+mod append;
 pub mod laws;
+mod record_count;
 mod record_line;
+mod record_text;
+mod records;
+mod statistics;
+mod stats_lens;
+#[cfg(test)]
+mod tests;
 
 pub use record_line::RecordLine;
+pub use statistics::write_stats;
+pub use stats_lens::StatsLens;
