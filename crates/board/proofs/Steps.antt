@@ -1,5 +1,5 @@
 -- What the next entry asks of the board's books, and that the board is kept by it.
-use Rattle.std.proofs.Common.{◌≡◌, ℕ, suc, ◌+◌, ◌-◌, ◌<◌, ◌≤◌, ◌^◌, ◌==◌, cond, true, false, List, [], ◌∷◌, length, map, Option, None, Some, MatchOption, refl, sym, ◌∙◌, ap, subst, arith, length-append}
+use Rattle.std.proofs.Common.{◌≡◌, ℕ, suc, ◌+◌, ◌<◌, ◌≤◌, ◌^◌, ◌==◌, cond, true, false, List, [], ◌∷◌, length, map, Option, None, Some, MatchOption, refl, sym, ◌∙◌, ap, subst, arith, length-append}
 use Rattle.std.proofs.lemmas.Bool.{both_ways}
 use Rattle.num_range.specs.declared.space.Space.{Space}
 use Rattle.num_range.specs.Number.{PlainNumber}
@@ -18,7 +18,7 @@ use Rattle.reg_entry.specs.Covers.{card_for, first_number}
 use Rattle.reg_entry.specs.Entry.{PlainEntry}
 use Rattle.reg_entry.specs.Next.{IsNextEntry, until_of}
 use Rattle.reg_entry.specs.Partition.{Partition, pieces_in, with_pieces, piece_count}
-use Rattle.reg_entry.specs.Pieces.{piece_at, laid}
+use Rattle.reg_entry.specs.Pieces.{laid}
 use Rattle.reg_entry.specs.Register.{Register, piece_of, card_of, reshaped, painted, pool_after, holders_after, subs_after, reverses_after, after_entry}
 use Rattle.reg_entry.specs.Reshaping.{split_at_number}
 use Rattle.reg_entry.specs.Ranges.{ranges_inside}
@@ -32,7 +32,6 @@ use Rattle.sub_book.specs.Book.{PlainRangeBook}
 use Rattle.reg_laws.specs.Use.{used_by, used_by_card}
 use Rattle.reg_entry.specs.Holdings.{held_by, held_by_card, allocated_by, allocated_by_card}
 use Rattle.reg_laws.specs.Reached.{IsReached}
-use Rattle.reg_entry.specs.Reshaping.{CanJoinAt}
 use Rattle.board.specs.declared.board.Board.TheInside.{Inside as BoardInside}
 use Rattle.reg_entry.specs.declared.entry.Entry.TheInside.{Inside as EntryInside}
 use Rattle.board.specs.Kinds.{asks_for_no_reverse}

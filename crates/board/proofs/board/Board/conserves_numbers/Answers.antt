@@ -1,6 +1,5 @@
-use Rattle.std.proofs.Common.{List, ap, subst}
+use Rattle.std.proofs.Common.{List, subst}
 use Rattle.reg_entry.specs.Entry.{PlainEntry}
-use Rattle.reg_entry.specs.Register.{Register}
 use Rattle.reg_entry.specs.Operations.{PlainBoard}
 use Rattle.board.specs.Conserved.{IsConservedBy}
 use Rattle.board.proofs.board.Board.conserves_numbers.Goals as goal

@@ -1,4 +1,4 @@
-use Rattle.std.proofs.Common.{◌≤◌, ◌^◌, ap, arith}
+use Rattle.std.proofs.Common.{ap, arith}
 use Rattle.reg_entry.specs.Operations.{PlainBoard}
 use Rattle.board.proofs.board.Board.entries.Goals as goal
 

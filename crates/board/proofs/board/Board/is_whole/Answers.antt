@@ -1,4 +1,4 @@
-use Rattle.std.proofs.Common.{ap, subst}
+use Rattle.std.proofs.Common.{subst}
 use Rattle.reg_entry.specs.Operations.{PlainBoard}
 use Rattle.reg_entry.specs.Whole.{IsWholeRegister}
 use Rattle.board.proofs.board.Board.is_whole.Goals as goal

@@ -1,4 +1,4 @@
-use Rattle.std.proofs.Common.{sym, ◌∙◌, ◌≤◌, ℕ, ap, subst}
+use Rattle.std.proofs.Common.{sym, ◌∙◌, ◌≤◌, ℕ, subst}
 use Rattle.num_range.specs.Space.{top_of}
 use Rattle.board.proofs.Meeting.{met_within, common_within}
 use Rattle.board.proofs.board.Board.meets_sub.Goals as goal

@@ -9,8 +9,7 @@ use Rattle.reg_entry.specs.Entry.{PlainEntry}
 use Rattle.reg_entry.specs.Next.{IsNextEntry}
 use Rattle.reg_entry.specs.Operations.{PlainBoard}
 use Rattle.reg_entry.specs.Register.{Register, after_entry, reshaped, card_of, holders_after, subs_after}
-use Rattle.reg_entry.specs.Sums.{held, allocated, used, ranges_size}
-use Rattle.reg_entry.specs.Ranges.{ranges_inside}
+use Rattle.reg_entry.specs.Sums.{held, allocated, used}
 use Rattle.reg_laws.specs.Use.{used_by}
 use Rattle.reg_entry.specs.Whole.{IsWholeRegister}
 use Rattle.reg_laws.specs.Reached.{IsReached}
