@@ -7,10 +7,8 @@ use Rattle.num_range.specs.declared.space.Space.TheVariants.{Asn, Ipv4, Ipv6}
 use Rattle.num_range.specs.Space.{width_of}
 use Rattle.num_range.specs.Range.{PlainRange}
 use Rattle.num_range.specs.Cover.{least_cover}
-use Rattle.reg_entry.specs.declared.card.Card.{Card}
 use Rattle.reg_entry.specs.declared.piece.Piece.{Piece}
 use Rattle.reg_entry.specs.Partition.{Partition, pieces_in, piece_count}
-use Rattle.delegated_ext.specs.declared.record_line.RecordLine.{RecordLine}
 use Rattle.delegated_ext.specs.Records.{record_line, written_ranges, piece_records}
 
 -- a piece has as many records as ranges are written of it

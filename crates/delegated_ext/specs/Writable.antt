@@ -1,5 +1,5 @@
 -- What the records of a piece need so that their lines can be written.
-use Rattle.std.specs.Prelude.{ℕ, ◌^◌, ◌<◌, ◌≤◌}
+use Rattle.std.specs.Prelude.{◌^◌, ◌<◌, ◌≤◌}
 use Rattle.num_range.specs.Range.{size_of}
 use Rattle.reg_entry.specs.declared.piece.Piece.{Piece}
 use Rattle.reg_entry.specs.Days.{last_date}

@@ -1,5 +1,5 @@
 use Rattle.std.proofs.Common.{◌≡◌, ◌++◌, ℕ, List, sym, ◌∙◌, ap, ◌^◌, ◌<◌, subst}
-use Rattle.std.specs.List.{AllByRecursion, flat_map}
+use Rattle.std.specs.List.{AllByRecursion}
 use Rattle.num_range.specs.Range.{PlainRange, size_of}
 use Rattle.num_range.specs.Cover.{least_cover}
 use Rattle.delegated_ext.specs.Records.{record_line}
