@@ -78,7 +78,16 @@ fn holdings_follow_the_cards(rt: HostRuntime) -> Result<(), Fail> {
     let half = Range::between(Space::Ipv4, 3221225984, 3221226111);
     book.use_more(&allocated, &half, 128);
     book.use_more(&assigned, &numbers, 16);
-    assert!(rt; uses(&book, &[(0, Space::Ipv4, 128), (0, Space::Ipv6, 0), (1, Space::Asn, 0)]));
+    assert!(rt;
+        uses(
+            &book,
+            &[
+                (0, Space::Ipv4, 128),
+                (0, Space::Ipv6, 0),
+                (1, Space::Asn, 0)
+            ]
+        )
+    );
     book.use_less(&allocated, &half, 64);
     assert!(rt; uses(&book, &[(0, Space::Ipv4, 64)]));
 

@@ -59,10 +59,12 @@ worked_subs = refl
 
 -- one holder may hold 128 allocated addresses, of which four fifths have to be used
 abbrev strict : PlainPolicy
-strict = record (policy 30) { ipv4 = record {
-  allocated = record { least = 20; most = 32; cap = 128; percent = 80; lir = true; enduser = false };
-  assigned = record { least = 20; most = 32; cap = 128; percent = 0; lir = true; enduser = true };
-} }
+strict = record (policy 30) {
+  ipv4 = record {
+    allocated = record { least = 20; most = 32; cap = 128; percent = 80; lir = true; enduser = false };
+    assigned = record { least = 20; most = 32; cap = 128; percent = 0; lir = true; enduser = true };
+  };
+}
 
 worked_use : batch_text strict 19783 (codes "receive 192.0.2.0/24\nholder ORG-A lir DE \"Alpha Net\" \"noc@alpha.example\"\ndelegate ipv4 /26 allocated ORG-A\ndelegate ipv4 /26 allocated ORG-A\nsub 192.0.2.0-192.0.2.50 ORG-A\ndelegate ipv4 /26 allocated ORG-A\ndelegate ipv4 /26 allocated ORG-A\nreturn 192.0.2.0/26 ORG-A\n")
     ≡ codes "ok 1 192.0.2.0 - 192.0.2.255\nok 2 -\nok 3 192.0.2.0 - 192.0.2.63\nrefused N23 UnderUsed 0 64\nok 4 192.0.2.0 - 192.0.2.50\nok 5 192.0.2.64 - 192.0.2.127\nrefused N22 OverCap 192 128\nrefused N26 HasSubs 1\n"
