@@ -13,6 +13,7 @@ use num_range::{Range, Space};
 use policy_table::Policy;
 use reg_entry::{Delegation, Handle, Holder, Kind, Piece, Refusal, Request, Row, Status};
 use reg_laws::holdings::holdings_are_bounded;
+use reg_laws::usage::use_is_bounded;
 
 fn amount_out_of_policy(row: &Row, amount: u32) -> Option<Refusal>
     ensures refusal { result ≡ amount_out_of_policy row.now amount }
@@ -77,8 +78,13 @@ fn hundredths(amount: u128, percent: u32) -> u128
 fn under_used(board: &Board, row: &Row, space: Space, handle: &Handle) -> Option<Refusal>
     ensures { result ≡ under_used board.now.register row.now space handle.now }
 {
+    // Laws: what is used is less than the greatest number of the type.
+    holdings_are_bounded();
+    use_is_bounded();
+    board.is_whole();
     let number = board.holders().by_handle(handle)?;
-    let (used, held) = (board.used(number, space), board.allocated(number, space));
+    let used = board.used(number, space);
+    let held = board.allocated(number, space);
     Refusal::UnderUsed { used, held }.when(0 < held && used < hundredths(held, row.percent))
 }
 
