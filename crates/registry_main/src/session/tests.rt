@@ -51,8 +51,7 @@ N10 N11 N12 N13 N32 N33 | entries subs | sub 192.0.2.32/27 ORG-A | sub 192.0.2.2
 N10 N11 N13 N16 | | sub 192.0.2.32/27 ORG-A | sub 192.0.2.32-192.0.3.0 ORG-X | N10 OutsidePool 192.0.3.0
 N10 N11 N13 N26 | | sub 192.0.2.32/27 ORG-A | return 192.0.2.0-192.0.3.0 ORG-X | N10 OutsidePool 192.0.3.0
 N10 N11 N12 N30 N32 | pieces entries | delegate ipv4 /25 allocated ORG-B | reserve 192.0.2.250-192.0.3.0 | N10 OutsidePool 192.0.3.0
-N10 N11 N13 N14 N26 N32 | entries | sub 192.0.2.32/27 ORG-A | return 192.0.2.0/25 ORG-B | N14 NotHolder ORG-A
-N14 N21 N22 N24 | tight | delegate ipv4 /26 assigned ORG-E; transfer 192.0.2.0/25 ORG-A ORG-B | transfer 192.0.2.0-192.0.3.0 ORG-X ORG-E | N10 OutsidePool 192.0.3.0
+N10 N11 N13 N14 N21 N22 N24 | tight | delegate ipv4 /26 assigned ORG-E; transfer 192.0.2.0/25 ORG-A ORG-B | transfer 192.0.2.0-192.0.3.0 ORG-X ORG-E | N10 OutsidePool 192.0.3.0
 N10 N11 N25 | | return 192.0.2.0/25 ORG-A | release 192.0.2.0-192.0.3.0 | N10 OutsidePool 192.0.3.0
 N10 N12 | | receive 198.51.100.0/24 | join 198.51.100.0 | N10 OutsidePool 198.51.99.255
 N10 N16 | | receive 3fff::/16 | receive 3fff::-4000:: | N10 OutsidePool 4000::
@@ -103,6 +102,7 @@ N13 N30 | pieces | | delegate ipv4 /26 allocated ORG-X | N13 UnknownHolder ORG-X
 
 N14 | | | return 192.0.2.0/25 ORG-B | N14 NotHolder ORG-A
 N14 | | | transfer 192.0.2.0/25 ORG-B ORG-A | N14 NotHolder ORG-A
+N14 N26 N32 | entries | sub 192.0.2.32/27 ORG-A | return 192.0.2.0/25 ORG-B | N14 NotHolder ORG-A
 N14 N21 N22 N24 N32 | tight entries | delegate ipv4 /26 assigned ORG-E; transfer 192.0.2.0/25 ORG-A ORG-B | transfer 192.0.2.0/25 ORG-A ORG-E | N14 NotHolder ORG-B
 
 N15 | | | holder ORG-B lir FR "Beta Net" "noc@beta.example" | N15 HandleTaken
