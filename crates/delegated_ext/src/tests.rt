@@ -295,25 +295,43 @@ fn is_filled(alloc: Global, board: &mut Board) -> Result<bool, AllocError> {
     is_file(alloc, board, STATISTICS, 20)
 }
 
-// A test that has a board does little else, since each of its ends drops the board.
+/// What is looked at in a register of the rooms.
+#[derive(Clone, Copy)]
+enum Look {
+    Empty,
+    Anything,
+    Filled,
+}
+
+fn is_found(alloc: Global, board: &mut Board, look: Look) -> Result<bool, AllocError> {
+    match look {
+        Look::Empty => is_file(alloc, board, EMPTY, 0),
+        Look::Anything => is_anything(alloc, board, 0),
+        Look::Filled => is_filled(alloc, board),
+    }
+}
+
+/// Whether a register of its own is as it should be. No other function owns a board, and this one has one end behind it,
+/// since each end proves again that all of the board is dropped.
+fn is_so(alloc: Global, look: Look) -> Result<bool, AllocError> {
+    let mut board = Board::with_room(alloc, ROOMS)?;
+    is_found(alloc, &mut board, look)
+}
 
 #[test]
 fn empty_register_is_written(rt: HostRuntime) -> Result<(), Fail> {
-    let board = Board::with_room(rt.alloc(), ROOMS)?;
-    assert!(rt; is_file(rt.alloc(), &board, EMPTY, 0)?);
+    assert!(rt; is_so(rt.alloc(), Look::Empty)?);
     Ok(())
 }
 
 #[test]
 fn any_lens_is_looked_through(rt: HostRuntime) -> Result<(), Fail> {
-    let board = Board::with_room(rt.alloc(), ROOMS)?;
-    assert!(rt; is_anything(rt.alloc(), &board, 0)?);
+    assert!(rt; is_so(rt.alloc(), Look::Anything)?);
     Ok(())
 }
 
 #[test]
 fn each_status_of_each_space_is_written(rt: HostRuntime) -> Result<(), Fail> {
-    let mut board = Board::with_room(rt.alloc(), ROOMS)?;
-    assert!(rt; is_filled(rt.alloc(), &mut board)?);
+    assert!(rt; is_so(rt.alloc(), Look::Filled)?);
     Ok(())
 }

@@ -9,8 +9,8 @@ use Rattle.std.proofs.lemmas.Bool.{cases_Bool, cases_lt, lt-ltb, ne_eqb, eqb-tru
 use Rattle.std.specs.Prelude.{Err}
 use Rattle.desk_lang.specs.Words.{malformed_at}
 use Rattle.desk_lang.specs.Grammar.{line_of}
-use Rattle.registry_main.specs.Session.{PlainSession, Step, answered, step_of, replies, replies_to}
-use Rattle.registry_main.specs.LineBuffer.{HasNoNewline, IsAnsweredAs}
+use Rattle.registry_main.specs.Session.{PlainSession, Step, answered, step_of, replies, replies_to, session_after}
+use Rattle.registry_main.specs.LineBuffer.{HasNoNewline, IsAnsweredAs, LeadsAs}
 
 abbrev pub is_newline : ℕ → Bool
 is_newline b = b == 10
@@ -46,13 +46,13 @@ split_last (b ∷ bs) h = rw h.0 (ap (onto_first b) (split_last bs h.1))
 
 -- ---- the lines of a text
 
-lines-line : (line rest : List ℕ) → HasNoNewline line → lines (line ++ 10 ∷ rest) ≡ strip_carriage_return line ∷ lines rest
+pub lines-line : (line rest : List ℕ) → HasNoNewline line → lines (line ++ 10 ∷ rest) ≡ strip_carriage_return line ∷ lines rest
 lines-line line rest h =
     let s = splits rest in
     ap lines_of_parts (split_line line rest h ∙ ap (λ parts. line ∷ parts) s.split)
     ∙ ap (λ parts. strip_carriage_return line ∷ lines_of_parts parts) (sym s.split)
 
-lines-last : (line : List ℕ) → HasNoNewline line → 0 < length line → lines line ≡ line ∷ []
+pub lines-last : (line : List ℕ) → HasNoNewline line → 0 < length line → lines line ≡ line ∷ []
 lines-last [] h some = absurd (omega arith)
 lines-last (b ∷ bs) h some = ap lines_of_parts (split_last (b ∷ bs) h) ∙ rw (ne_eqb (length (b ∷ bs)) 0 (omega arith)) refl
 
@@ -108,59 +108,78 @@ strip_loses_one line = elim (cases_Bool (slice_index line (length line - 1) == 1
 pub answer_overlong : (r : PlainSession) (line : List ℕ) → 1024 < length line → answered r line ≡ too_long r
 answer_overlong r line long = ap (step_of r) (overlong_is_malformed line long)
 
--- a text whose first line is too long, up to its end or up to a newline
 pub overlong-last : (r : PlainSession) (line : List ℕ) → HasNoNewline line → 1025 < length line
     → replies_to r line ≡ (too_long r).text
 overlong-last r line h long =
     replies_to-last r line h (omega arith) ∙ ap (λ a. a.text) (answer_overlong r line (omega arith))
-
-overlong-line : (r : PlainSession) (line rest : List ℕ) → HasNoNewline line → 1025 < length line
-    → replies_to r (line ++ 10 ∷ rest) ≡ (too_long r).text ++ replies_to r rest
-overlong-line r line rest h long =
-    let stripped = strip_carriage_return line in
-    let enough : 1024 < length stripped = let s = strip_loses_one line in omega arith in
-    replies_to-line r line rest h
-    ∙ ap (λ a. a.text ++ replies_to a.session rest) (answer_overlong r stripped enough)
-
--- every line that is too long is answered as every other
-overlong_same : (r : PlainSession) (long other : List ℕ) → HasNoNewline long → HasNoNewline other → 1025 < length long → 1025 < length other
-    → (tail : List ℕ) → replies_to r (long ++ tail) ≡ replies_to r (other ++ tail)
-overlong_same r long other h k m n tail =
-    let found = first_line tail in
-    let clear : (xs : List ℕ) → HasNoNewline xs → HasNoNewline (xs ++ found.line) = λ xs c. no_newline-append xs found.line c found.clear in
-    let longer : (xs : List ℕ) → 1025 < length xs → 1025 < length (xs ++ found.line) = λ xs l. simp length-append (omega arith) in
-    elim found.rest [
-      | inl e ↦
-          let last : (xs : List ℕ) → HasNoNewline xs → 1025 < length xs → replies_to r (xs ++ tail) ≡ (too_long r).text =
-          λ xs c l. ap (λ t. replies_to r (xs ++ t)) e ∙ overlong-last r (xs ++ found.line) (clear xs c) (longer xs l) in
-          last long h m ∙ sym (last other k n)
-      | inr w ↦
-          let line : (xs : List ℕ) → HasNoNewline xs → 1025 < length xs
-          → replies_to r (xs ++ tail) ≡ (too_long r).text ++ replies_to r w.0 =
-          λ xs c l. ap (λ t. replies_to r (xs ++ t)) w.1 ∙ ap (replies_to r) (sym (append_assoc xs found.line (10 ∷ w.0)))
-          ∙ overlong-line r (xs ++ found.line) w.0 (clear xs c) (longer xs l) in
-          line long h m ∙ sym (line other k n)
-    ]
 
 no_newline-take : (n : ℕ) (xs : List ℕ) → HasNoNewline xs → HasNoNewline (take n xs)
 no_newline-take n [] h = subst HasNoNewline (sym (take-nil n)) tt
 no_newline-take zero (x ∷ xs) h = tt
 no_newline-take (suc n) (x ∷ xs) h = (h.0, no_newline-take n xs h.1)
 
--- the first 1,026 bytes of a line are answered as the line
-held_is_enough : (line : List ℕ) → HasNoNewline line → IsAnsweredAs (take 1026 line) line
-held_is_enough line h = λ r tail. elim (cases_lt 1026 (length line)) [
-  | inl more ↦ overlong_same r (take 1026 line) line (no_newline-take 1026 line h) h (omega (arith, length-take 1026 line)) (omega arith) tail
-  | inr all ↦ ap (λ l. replies_to r (l ++ tail)) (take_all 1026 line all)
-]
-
 pub kept_line : (old bytes new : List ℕ) → HasNoNewline old → HasNoNewline bytes → new ≡ take 1026 (old ++ bytes) → HasNoNewline new
 kept_line old bytes new h k e = subst HasNoNewline (sym e) (no_newline-take 1026 (old ++ bytes) (no_newline-append old bytes h k))
 
-pub kept_is_enough : (old bytes new : List ℕ) → HasNoNewline old → HasNoNewline bytes → new ≡ take 1026 (old ++ bytes)
+-- what is made of lines one after the other, by what each is answered
+module _ {A : Type 0} (walk : PlainSession → List (List ℕ) → A) (step : Step → List (List ℕ) → A)
+    (each : (s : PlainSession) (line : List ℕ) (more : List (List ℕ)) → walk s (line ∷ more) ≡ step (answered s line) more) where
+  -- a text whose first line is too long, up to its end or up to a newline
+  walk-last : (r : PlainSession) (line : List ℕ) → HasNoNewline line → 1025 < length line
+      → walk r (lines line) ≡ step (too_long r) []
+  walk-last r line h long =
+      ap (walk r) (lines-last line h (omega arith)) ∙ each r line [] ∙ ap (λ a. step a []) (answer_overlong r line (omega arith))
+
+  walk-line : (r : PlainSession) (line rest : List ℕ) → HasNoNewline line → 1025 < length line
+      → walk r (lines (line ++ 10 ∷ rest)) ≡ step (too_long r) (lines rest)
+  walk-line r line rest h long =
+      let stripped = strip_carriage_return line in
+      let enough : 1024 < length stripped = let s = strip_loses_one line in omega arith in
+      ap (walk r) (lines-line line rest h) ∙ each r stripped (lines rest)
+      ∙ ap (λ a. step a (lines rest)) (answer_overlong r stripped enough)
+
+  -- every line that is too long is as every other
+  overlong_same : (r : PlainSession) (long other : List ℕ) → HasNoNewline long → HasNoNewline other
+      → 1025 < length long → 1025 < length other
+      → (tail : List ℕ) → walk r (lines (long ++ tail)) ≡ walk r (lines (other ++ tail))
+  overlong_same r long other h k m n tail =
+      let found = first_line tail in
+      let clear : (xs : List ℕ) → HasNoNewline xs → HasNoNewline (xs ++ found.line) = λ xs c. no_newline-append xs found.line c found.clear in
+      let longer : (xs : List ℕ) → 1025 < length xs → 1025 < length (xs ++ found.line) = λ xs l. simp length-append (omega arith) in
+      elim found.rest [
+        | inl e ↦
+            let last : (xs : List ℕ) → HasNoNewline xs → 1025 < length xs → walk r (lines (xs ++ tail)) ≡ step (too_long r) [] =
+            λ xs c l. ap (λ t. walk r (lines (xs ++ t))) e ∙ walk-last r (xs ++ found.line) (clear xs c) (longer xs l) in
+            last long h m ∙ sym (last other k n)
+        | inr w ↦
+            let line : (xs : List ℕ) → HasNoNewline xs → 1025 < length xs
+            → walk r (lines (xs ++ tail)) ≡ step (too_long r) (lines w.0) =
+            λ xs c l. ap (λ t. walk r (lines (xs ++ t))) w.1 ∙ ap (λ t. walk r (lines t)) (sym (append_assoc xs found.line (10 ∷ w.0)))
+            ∙ walk-line r (xs ++ found.line) w.0 (clear xs c) (longer xs l) in
+            line long h m ∙ sym (line other k n)
+      ]
+
+  -- the first 1,026 bytes of a line are as the line
+  held_is_enough : (line : List ℕ) → HasNoNewline line → (r : PlainSession) (tail : List ℕ)
+      → walk r (lines (take 1026 line ++ tail)) ≡ walk r (lines (line ++ tail))
+  held_is_enough line h r tail = elim (cases_lt 1026 (length line)) [
+    | inl more ↦ overlong_same r (take 1026 line) line (no_newline-take 1026 line h) h (omega (arith, length-take 1026 line)) (omega arith) tail
+    | inr all ↦ ap (λ l. walk r (lines (l ++ tail))) (take_all 1026 line all)
+  ]
+
+  kept_is_enough : (old bytes new : List ℕ) → HasNoNewline old → HasNoNewline bytes → new ≡ take 1026 (old ++ bytes)
+      → (r : PlainSession) (tail : List ℕ) → walk r (lines (new ++ tail)) ≡ walk r (lines ((old ++ bytes) ++ tail))
+  kept_is_enough old bytes new h k e r tail =
+      ap (λ l. walk r (lines (l ++ tail))) e ∙ held_is_enough (old ++ bytes) (no_newline-append old bytes h k) r tail
+
+-- what is kept of a line is answered as all of it, and leads to the same session
+pub kept_is_answered : (old bytes new : List ℕ) → HasNoNewline old → HasNoNewline bytes → new ≡ take 1026 (old ++ bytes)
     → IsAnsweredAs new (old ++ bytes)
-kept_is_enough old bytes new h k e = λ r tail.
-    ap (λ l. replies_to r (l ++ tail)) e ∙ held_is_enough (old ++ bytes) (no_newline-append old bytes h k) r tail
+kept_is_answered = kept_is_enough replies (λ step more. step.text ++ replies step.session more) (λ s line more. refl)
+
+pub kept_leads : (old bytes new : List ℕ) → HasNoNewline old → HasNoNewline bytes → new ≡ take 1026 (old ++ bytes)
+    → LeadsAs new (old ++ bytes)
+kept_leads = kept_is_enough session_after (λ step more. session_after step.session more) (λ s line more. refl)
 
 -- as many bytes added as there is room for
 pub with_front_of : (old bytes : List ℕ) (free count room : ℕ) → free + length old ≡ room → count ≡ min free (length bytes)

@@ -1,8 +1,10 @@
+pub mod Applied
 pub mod Ends
 pub mod Entries
 pub mod FirstLine
 pub mod Front
 pub mod OneWord
+pub mod Published
 mod Rows
 pub mod Shown
 pub mod UpToDate

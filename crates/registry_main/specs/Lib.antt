@@ -4,3 +4,5 @@ pub mod Batch
 pub mod Answer
 pub mod Exit
 pub mod PolicyBytes
+pub mod Command
+pub mod Stats

@@ -120,6 +120,10 @@ session_after s (line ∷ more) = session_after (answered s line).session more
 abbrev pub replies_to : PlainSession → List ℕ → List ℕ
 replies_to s text = replies s (lines text)
 
+-- the session after the lines of a text
+abbrev pub after_text : PlainSession → List ℕ → PlainSession
+after_text s text = session_after s (lines text)
+
 -- what is written for a script under a policy, on a clock's day
 abbrev pub batch_text : PlainPolicy → ℕ → List ℕ → List ℕ
 batch_text policy day script = replies_to (new_session policy day) script

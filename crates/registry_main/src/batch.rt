@@ -14,7 +14,7 @@ use desk_lang::parted_at;
 use link_face::{Failed, Sink, Source};
 
 /// How many bytes are read at once.
-const PIECE: usize = 8192;
+pub const PIECE: usize = 8192;
 
 /// Why a script isn't answered to its end.
 #[derive(Clone, Copy, Debug, PartialEq, Eq)]
@@ -24,7 +24,7 @@ pub enum Stop {
 }
 
 /// The line without the one carriage return at its end.
-fn without_return(line: &[u8]) -> &[u8]
+pub fn without_return(line: &[u8]) -> &[u8]
     ensures { result.now ≡ strip_carriage_return line.now }
 {
     match line {
@@ -63,7 +63,7 @@ fn end_line<K: Sink>(
 }
 
 /// What stands before and behind the first newline.
-fn part_at_newline(text: &[u8]) -> Option<(&[u8], &[u8])>
+pub fn part_at_newline(text: &[u8]) -> Option<(&[u8], &[u8])>
     ensures { MatchOption result (HasNoNewline text.now)
         (λ parts. HasNoNewline parts.0.now × (text.now ≡ parts.0.now ++ 10 ∷ parts.1.now)) }
 {

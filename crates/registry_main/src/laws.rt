@@ -10,8 +10,11 @@ ghost use Rattle.reg_entry.specs.Pieces.{overlap, IsLeastTaken};
 ghost use Rattle.reg_entry.specs.Policy.{PlainPolicy, IsPolicy};
 ghost use Rattle.reg_entry.specs.Register.{register_after, register_pieces};
 ghost use Rattle.board.specs.Conserved.{IsConservedBy};
+ghost use Rattle.delegated_ext.specs.Conserved.{AreOfReceived};
+ghost use Rattle.delegated_ext.specs.Records.{record_lines};
 ghost use Rattle.registry_main.specs.Session.{rooms, entries_after, register_over};
 
+use delegated_ext::laws::records_conserve;
 use desk_lang::laws::lines_are_valid;
 use reg_entry::laws::{block_is_least, overlap_is_least};
 use reg_laws::next::accepted_may_come_next;
@@ -42,6 +45,16 @@ pub fn scripts_conserve()
     legal_entries_go_on();
     reached_registers_conserve();
     reached_registers_count();
+}
+
+/// The statistics file of a script's register loses no number and tells none twice.
+pub fn statistics_conserve()
+    ensures { (es : List PlainEntry) (p : PlainPolicy) (day : ℕ) (lines : List (List ℕ)) → IsPolicy p → IsLegal rooms es
+        → AreOfReceived (entries_after es p day lines) (record_lines (register_over es p day lines)) }
+{
+    accepted_entries_are_legal();
+    legal_entries_go_on();
+    records_conserve();
 }
 
 /// In a script's register the block of a delegation is the least free one, and the number of an overlap the least that

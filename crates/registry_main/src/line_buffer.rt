@@ -1,6 +1,6 @@
 //! The line that is being read, of which no more is kept than decides its answer.
 ghost use Rattle.std.specs.Prelude.{◌≡◌, ◌++◌, [], take};
-ghost use Rattle.registry_main.specs.LineBuffer.{HasNoNewline, IsAnsweredAs};
+ghost use Rattle.registry_main.specs.LineBuffer.{HasNoNewline, IsAnsweredAs, LeadsAs};
 
 use arrayvec::ArrayVec;
 use std::marker::Model;
@@ -46,6 +46,7 @@ impl LineBuffer {
     pub fn extend(&mut self, bytes: &[u8])
         requires { HasNoNewline bytes.now }
         ensures answered { IsAnsweredAs self.new (self.old ++ bytes.now) }
+        ensures leads { LeadsAs self.new (self.old ++ bytes.now) }
         ensures line { HasNoNewline self.new }
     {
         keep_front(&mut self.bytes, bytes);

@@ -1,9 +1,12 @@
-//! The register's program: `registry_main batch` answers a script.
+//! The register's program: `registry_main batch` answers a script, and `registry_main stats` writes the statistics of the
+//! register that it leaves.
 #![tactic(auto)]
 
 mod answer;
 mod answer_line;
+mod apply;
 mod batch;
+mod command;
 mod due_lines;
 mod exit;
 mod laws;
@@ -14,6 +17,7 @@ mod run;
 #[cfg(test)]
 mod samples;
 mod session;
+mod stats;
 
 use exit::Exit;
 use link_face::{InSource, OutSink, SystemDay};

@@ -1,5 +1,5 @@
 //! The program, over whatever it reads from and writes to.
-ghost use Rattle.std.specs.Prelude.{◌≡◌, ◌≢◌, ◌≤◌, ◌<◌, ◌+◌, ◌↔◌, ◌⊎◌, ℕ, List, [], ◌∷◌, Ok, Err, IsTrue, map, codes};
+ghost use Rattle.std.specs.Prelude.{◌≡◌, ◌≢◌, ◌≤◌, ◌<◌, ◌+◌, ◌↔◌, ◌⊎◌, ℕ, List, None, Some, Ok, Err, map};
 ghost use Rattle.std.specs.String.{string_bytes};
 ghost use Rattle.num_range.specs.Range.{PlainRange, IsRange};
 ghost use Rattle.num_range.specs.declared.space.Space.{Space};
@@ -13,28 +13,28 @@ ghost use Rattle.policy_table.specs.declared.fault.PolicyFault.{PolicyFault};
 ghost use Rattle.policy_table.specs.declared.fault.PolicyFault.TheVariants as faults;
 ghost use Rattle.link_face.specs.Faults.{HasRisen};
 ghost use Rattle.board.specs.Conserved.{IsConservedBy};
+ghost use Rattle.delegated_ext.specs.Conserved.{AreOfReceived};
+ghost use Rattle.delegated_ext.specs.Records.{record_lines};
 ghost use Rattle.registry_main.specs.Session.{rooms, entries_after, register_over};
 ghost use Rattle.registry_main.specs.Batch.{known, IsAnswered};
+ghost use Rattle.registry_main.specs.Command.{command_of};
 ghost use Rattle.registry_main.specs.PolicyBytes.{policy_front, IsSaid, IfSaid};
+ghost use Rattle.registry_main.specs.Stats.{IsPublished};
+ghost use Rattle.registry_main.specs.declared.command.Command.TheVariants.{Batch, Stats};
 ghost use Rattle.registry_main.specs.declared.exit.Exit.TheVariants.{Done, Usage, PolicyRefused, ReadFault, WriteFault, NoMemory};
 
 use crate::batch::{Stop, answer_script};
+use crate::command::Command;
 use crate::exit::Exit;
-use crate::laws::{accepted_entries_are_legal, answers_are_least, scripts_conserve};
+use crate::laws::{
+    accepted_entries_are_legal, answers_are_least, scripts_conserve, statistics_conserve,
+};
 use crate::policy_bytes::{NoPolicy, read_policy};
 use crate::session::Session;
+use crate::stats::answer_stats;
 use link_face::{Clock, Sink, Source};
 use policy_table::Policy;
 use std::alloc::Global;
-
-fn is_batch(words: &[String]) -> bool
-    ensures { IsTrue result ↔ (map string_bytes words.now ≡ codes "batch" ∷ []) }
-{
-    match words {
-        [word] => word.as_str() == "batch",
-        _ => false,
-    }
-}
 
 /// Answers a script under a policy, on a day of the clock.
 fn answer_batch<T: Source, K: Sink, C: Clock>(
@@ -66,7 +66,8 @@ fn answer_batch<T: Source, K: Sink, C: Clock>(
     }
 }
 
-/// Does what the words say: `batch` answers the script line by line, by the rules of the policy.
+/// Does what the words say, by the rules of the policy: `batch` answers the script line by line, and `stats` writes the
+/// statistics file of the register that the script leaves.
 pub fn run<R: AllocGlobal, S: Source, T: Source, K: Sink, C: Clock>(
     rt: &R,
     words: &[String],
@@ -75,8 +76,8 @@ pub fn run<R: AllocGlobal, S: Source, T: Source, K: Sink, C: Clock>(
     out: &mut K,
     clock: &mut C,
 ) -> Exit
-    // The words are refused exactly where they aren't `batch` alone, and then nothing is read and nothing written.
-    ensures usage { (result ≡ Usage) ↔ (map string_bytes words.now ≢ codes "batch" ∷ []) }
+    // The words are refused exactly where they are no command, and then nothing is read and nothing written.
+    ensures usage { (result ≡ Usage) ↔ (command_of (map string_bytes words.now) ≡ None) }
     ensures untouched { result ≡ Usage → (policy.new ≡ policy.old) × (script.new ≡ script.old) × (out.new ≡ out.old) }
 
     // The policy is refused for the fault that its bytes have, and then nothing is read of the script and nothing
@@ -89,17 +90,27 @@ pub fn run<R: AllocGlobal, S: Source, T: Source, K: Sink, C: Clock>(
     ensures no_memory { result ≢ PolicyRefused faults.NoMemory }
     ensures bounded { S.budget policy.old ≤ S.budget policy.new + policy_front }
 
-    // Where the words and the policy are good, what is written are the replies of the register that the lines of the
-    // script build under the policy, on a day of the clock. The replies to the lines that have come are written before
-    // more is read. Done comes at the script's end alone.
-    ensures answered { ((result ≢ Done) × (script.new ≡ script.old) × (out.new ≡ out.old))
+    // `batch`: where the policy is good, what is written are the replies of the register that the lines of the script build
+    // under it, on a day of the clock. The replies to the lines that have come are written before more is read.
+    ensures answered { command_of (map string_bytes words.now) ≡ Some Batch → ((result ≢ Done) × (script.new ≡ script.old) × (out.new ≡ out.old))
         ⊎ ((p : PlainPolicy) × IsPolicy p × IsSaid (S.left policy.old) (Ok p) × (day : ℕ) × C.states clock.old day
         × IsAnswered p day (known (T.taken script.old) (T.left script.old) (K.written out.old)) result
         (known (T.taken script.new) (T.left script.new) (K.written out.new))) }
+
+    // `stats`: what is written is the statistics file of the register that they build. Nothing is written before all of the
+    // text is there.
+    ensures published { command_of (map string_bytes words.now) ≡ Some Stats → ((result ≢ Done) × (out.new ≡ out.old))
+        ⊎ ((p : PlainPolicy) × IsPolicy p × IsSaid (S.left policy.old) (Ok p) × (day : ℕ) × C.states clock.old day
+        × IsPublished p day (known (T.taken script.old) (T.left script.old) (K.written out.old)) result
+        (known (T.taken script.new) (T.left script.new) (K.written out.new))) }
+    ensures unwritten { command_of (map string_bytes words.now) ≡ Some Stats → result ≢ Done → result ≢ WriteFault → out.new ≡ out.old }
+
+    // Done comes at the script's end alone.
     ensures ended { result ≡ Done → T.has_ended script.new }
 
-    // Want of memory is told before anything is read of the script.
-    ensures unread { result ≡ NoMemory → (script.new ≡ script.old) × (out.new ≡ out.old) }
+    // Want of memory is told before anything is written, and of `batch` before anything is read of the script.
+    ensures no_memory_written { result ≡ NoMemory → out.new ≡ out.old }
+    ensures unread { command_of (map string_bytes words.now) ≡ Some Batch → result ≡ NoMemory → script.new ≡ script.old }
 
     // A fault is answered only where the outside failed in this run, and where it did the run ends with that fault.
     ensures read_fault { result ≡ ReadFault →
@@ -121,6 +132,11 @@ pub fn run<R: AllocGlobal, S: Source, T: Source, K: Sink, C: Clock>(
     ensures conserved { (es : List PlainEntry) (p : PlainPolicy) (day : ℕ) (lines : List (List ℕ)) → IsPolicy p → IsLegal rooms es
         → IsConservedBy (register_over es p day lines) (entries_after es p day lines) }
 
+    // So the records of its statistics file have no number twice, have just the numbers that were received, each with the
+    // card of the last entry that painted it, and in each space their sizes add up to what was received.
+    ensures records { (es : List PlainEntry) (p : PlainPolicy) (day : ℕ) (lines : List (List ℕ)) → IsPolicy p → IsLegal rooms es
+        → AreOfReceived (entries_after es p day lines) (record_lines (register_over es p day lines)) }
+
     // A delegation takes the least free block, aligned and all of it available, and an overlap is told by the least
     // number that is taken.
     ensures least { (es : List PlainEntry) (p : PlainPolicy) (day : ℕ) (lines : List (List ℕ)) (space : Space) (size : ℕ)
@@ -135,12 +151,16 @@ pub fn run<R: AllocGlobal, S: Source, T: Source, K: Sink, C: Clock>(
     // Laws, from `legal` on.
     accepted_entries_are_legal();
     scripts_conserve();
+    statistics_conserve();
     answers_are_least();
-    if !is_batch(words) {
+    let Some(command) = Command::read(words) else {
         return Exit::Usage;
-    }
+    };
     match read_policy(rt.alloc(), policy) {
-        Ok(policy) => answer_batch(rt.alloc(), policy, script, out, clock),
+        Ok(policy) => match command {
+            Command::Batch => answer_batch(rt.alloc(), policy, script, out, clock),
+            Command::Stats => answer_stats(rt.alloc(), policy, script, out, clock),
+        },
         Err(NoPolicy::Read) => Exit::ReadFault,
         Err(NoPolicy::Refused(fault)) => Exit::PolicyRefused(fault),
         Err(NoPolicy::Memory) => Exit::NoMemory,

@@ -8,9 +8,11 @@ ghost use Rattle.desk_text.specs.ReplyText.{ReplyHasDate};
 ghost use Rattle.registry_main.specs.Answer.{answer_text, HasDates};
 ghost use Rattle.registry_main.specs.declared.answer.Answer.TheVariants.{Shown};
 ghost use Rattle.registry_main.specs.Session.{new_session, decided, after_reply, shown_text, step_of, answered};
+ghost use Rattle.registry_main.specs.Stats.{session_stats};
 
 use crate::answer::Answer;
-use board::{Board, asks_for_no_reverse};
+use board::{Board, Body, asks_for_no_reverse};
+use delegated_ext::write_stats;
 use desk_lang::{Line, read_line};
 use num_range::Number;
 use piece_book::PieceBook;
@@ -162,6 +164,13 @@ impl Session {
             Ok(line) => self.follow(line),
             Err(fault) => Answer::Decided(malformed(fault.place)),
         }
+    }
+
+    /// The statistics file of the register.
+    pub fn stats(&self, alloc: Global) -> Result<Body, AllocError>
+        ensures { IfOk result (λ body. body ≡ session_stats self.now) }
+    {
+        write_stats(alloc, &self.board, self.policy.registry())
     }
 }
 

@@ -6,6 +6,7 @@ use std::test::Fail;
 
 mod faults;
 mod lines;
+mod statistics;
 mod transcripts;
 
 // 2024-03-01
@@ -27,14 +28,15 @@ const NO_FAULTS: Plan<'static> = Plan {
     passes: 0,
 };
 
-/// The end of a run over a script that comes in pieces, and what it writes.
+/// The end of a run of a command over a script that comes in pieces, and what it writes.
 fn answer(
     rt: &HostRuntime,
+    command: &str,
     script: &[u8],
     piece: usize,
     plan: &Plan<'_>,
 ) -> Result<(Exit, Vec<u8>), Fail> {
-    let words = [String::from_str(rt.alloc(), "batch")?];
+    let words = [String::from_str(rt.alloc(), command)?];
     let bytes = policy_of(rt.alloc(), FREE_ROW)?;
     let mut policy = FailingSource::new(MemSource::in_pieces(&bytes, 100), plan.policy);
     let mut script = FailingSource::new(MemSource::in_pieces(script, piece.max(1)), plan.script);
@@ -43,13 +45,18 @@ fn answer(
     Ok((exit, out.bytes().to_vec(rt.alloc())?))
 }
 
-/// Whether a script is answered so, to its end, in whatever pieces it comes.
-fn is_answered(rt: &HostRuntime, script: &[u8], answers: &[u8]) -> Result<bool, Fail> {
+/// Whether a command writes so over a script, to its end, in whatever pieces it comes.
+fn is_written(rt: &HostRuntime, command: &str, script: &[u8], wanted: &[u8]) -> Result<bool, Fail> {
     for piece in [1usize, 7, 8192] {
-        let (exit, written) = answer(rt, script, piece, &NO_FAULTS)?;
-        if exit != Exit::Done || written.as_slice() != answers {
+        let (exit, written) = answer(rt, command, script, piece, &NO_FAULTS)?;
+        if exit != Exit::Done || written.as_slice() != wanted {
             return Ok(false);
         }
     }
     Ok(true)
+}
+
+/// Whether a script is answered so.
+fn is_answered(rt: &HostRuntime, script: &[u8], answers: &[u8]) -> Result<bool, Fail> {
+    is_written(rt, "batch", script, answers)
 }

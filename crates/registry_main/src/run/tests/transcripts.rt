@@ -294,7 +294,11 @@ fn add_line(text: &mut Vec<u8>, line: &str) -> Result<(), Fail> {
 }
 
 /// Adds the lines of a transcript to a script and to its answers.
-fn add_lines(transcript: &str, script: &mut Vec<u8>, answers: &mut Vec<u8>) -> Result<(), Fail> {
+pub fn add_lines(
+    transcript: &str,
+    script: &mut Vec<u8>,
+    answers: &mut Vec<u8>,
+) -> Result<(), Fail> {
     for line in transcript.lines() {
         match line.strip_prefix("> ") {
             Some(answer) => add_line(answers, answer)?,

@@ -1,0 +1,13 @@
+use Rattle.std.proofs.Common.{sym, subst}
+use Rattle.reg_entry.specs.Register.{Register, register_after}
+use Rattle.delegated_ext.specs.Conserved.{AreOfReceived}
+use Rattle.delegated_ext.specs.Records.{record_lines}
+use Rattle.registry_main.specs.Session.{rooms, entries_after}
+use Rattle.registry_main.proofs.laws.statistics_conserve.Goals as goal
+
+pub returns : goal.returns
+returns c es p day lines policy legal =
+    let all = entries_after es p day lines in
+    let of = c.legal_entries_go_on.ensures.of rooms all (c.accepted_entries_are_legal.ensures.legal es p day lines policy legal) in
+    subst (λ (r : Register). AreOfReceived all (record_lines r)) (sym (c.accepted_entries_are_legal.ensures.register es p day lines))
+    (c.records_conserve.ensures (register_after rooms all) all of)

@@ -1,0 +1,32 @@
+//! The words of the command line.
+ghost use Rattle.std.specs.Prelude.{◌≡◌, map};
+ghost use Rattle.std.specs.String.{string_bytes};
+ghost use Rattle.registry_main.specs.Command.{command_of};
+
+/// What the program is asked to do.
+#[derive(Clone, Copy, Debug, PartialEq, Eq)]
+pub enum Command {
+    /// To answer a script line by line.
+    Batch,
+    /// To write the statistics file of the register that a script leaves.
+    Stats,
+}
+
+impl Command {
+    /// The command that the words behind the program's name are, where they are one.
+    pub fn read(words: &[String]) -> Option<Command>
+        ensures { result ≡ command_of (map string_bytes words.now) }
+    {
+        let [word] = words else {
+            return None;
+        };
+        let word = word.as_str();
+        if word == "batch" {
+            Some(Command::Batch)
+        } else if word == "stats" {
+            Some(Command::Stats)
+        } else {
+            None
+        }
+    }
+}
