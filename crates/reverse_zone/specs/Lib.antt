@@ -1,0 +1,2 @@
+pub mod Apex
+pub mod Zone

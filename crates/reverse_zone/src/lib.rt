@@ -1,0 +1,8 @@
+//! The reverse zones of the register, as the master files of the domain name system have them.
+#![tactic(auto)]
+
+mod apex;
+mod append;
+mod labels;
+
+pub use apex::{Apex, read_apex};
