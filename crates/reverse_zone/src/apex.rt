@@ -1,11 +1,12 @@
 ghost use Rattle.std.specs.Prelude.{◌≡◌, ◌≢◌, ℕ, ◌<◌, List, [], ◌∷◌, ◌++◌, decimal, IfSome, IfNone};
 ghost use Rattle.std.specs.Char.{digit_char};
 ghost use Rattle.num_range.specs.declared.space.Space.TheVariants.{Ipv6 as TheIpv6};
-ghost use Rattle.reverse_zone.specs.Apex.{IsApex, nibble_labels, apex_name, labels_text};
+ghost use Rattle.reverse_zone.specs.Apex.{IsApex, apex_range, nibble_labels, apex_name, labels_text};
 ghost use Rattle.reverse_zone.specs.declared.apex.Apex.{Apex as TheApex};
 ghost use Rattle.reverse_zone.specs.declared.apex.Apex.TheVariants.{Four, Six};
 
 use addr_text::read_decimal;
+use num_range::{Range, Space};
 
 /// The top of a reverse zone: the first octet of the zone's IPv4 addresses, or the first three nibbles of its IPv6
 /// addresses, from 0x200 to 0x3ff.
@@ -13,6 +14,25 @@ use addr_text::read_decimal;
 pub enum Apex {
     Four(u8),
     Six(u16),
+}
+
+impl Apex {
+    /// The addresses whose names lie in the zone.
+    pub(crate) fn range(self) -> Range
+        requires { IsApex self }
+        ensures { result ≡ apex_range self }
+    {
+        match self {
+            Apex::Four(octet) => {
+                let first = u128::from(octet) << 24;
+                Range::between(Space::Ipv4, first, first + 0xff_ffff)
+            }
+            Apex::Six(nibbles) => {
+                let first = u128::from(nibbles) << 116;
+                Range::between(Space::Ipv6, first, first + ((1 << 116) - 1))
+            }
+        }
+    }
 }
 
 /// What of the name stands before the suffix.

@@ -3,6 +3,7 @@ ghost use Rattle.std.specs.Prelude.{◌≡◌, ◌+◌, ◌*◌, ◌^◌, ◌<�
 ghost use Rattle.std.specs.Char.{digit_char};
 ghost use Rattle.arrayvec.specs.ArrayVec.{array_vec_len};
 ghost use Rattle.num_range.specs.Range.{size_of};
+ghost use Rattle.num_range.specs.declared.space.Space.TheVariants.{Ipv6 as TheIpv6};
 ghost use Rattle.reverse_zone.specs.Apex.{IsApex, label_text, labels_text, nibble_labels, apex_name};
 ghost use Rattle.reverse_zone.specs.Zone.{label_bits, label_places, label_at, cut_labels, cut_name};
 
@@ -94,4 +95,61 @@ fn label_at(cut: &Range, place: u32) -> u8
         Space::Ipv4 => (digits % 256) as u8,
         Space::Ipv6 => (digits % 16) as u8,
     }
+}
+
+/// The labels that all numbers of the cut share, the last first.
+fn cut_labels(cut: &Range) -> ArrayVec<u8, 13>
+    ensures labels { result.items ≡ cut_labels cut.now }
+    ensures bounds { All (λ label. label < 2 ^ label_bits cut.now.space) result.items }
+{
+    let mut labels = ArrayVec::new();
+    for place in label_places(cut.space()) {
+        if shares_label(cut, *place) {
+            labels.push(label_at(cut, *place));
+        }
+    }
+    labels
+}
+
+/// Appends the name of a cut, relative to its zone.
+pub(crate) fn append_cut_name<const N: usize>(cut: &Range, out: &mut ArrayVec<u8, N>)
+    requires room { array_vec_len out.old + 52 ≤ N }
+    ensures text { out.new.items ≡ out.old.items ++ cut_name cut.now }
+    ensures len { array_vec_len out.new ≤ array_vec_len out.old + 52 }
+{
+    let labels = cut_labels(cut);
+    append_labels(cut.space(), labels.as_slice(), out);
+}
+
+/// Appends the name of a zone.
+pub(crate) fn append_apex_name<const N: usize>(apex: Apex, out: &mut ArrayVec<u8, N>)
+    requires apex { IsApex apex }
+    requires room { array_vec_len out.old + 25 ≤ N }
+    ensures text { out.new.items ≡ out.old.items ++ apex_name apex }
+    ensures len { array_vec_len out.new ≤ array_vec_len out.old + 25 }
+{
+    match apex {
+        Apex::Four(octet) => {
+            append_octet(octet, out);
+            append(b".in-addr.arpa", out);
+        }
+        Apex::Six(nibbles) => {
+            let labels = nibble_labels(nibbles);
+            append_labels(Space::Ipv6, &labels, out);
+            append(b".ip6.arpa", out);
+        }
+    }
+}
+
+/// Three nibbles, the last first.
+fn nibble_labels(nibbles: u16) -> [u8; 3]
+    requires { nibbles < 4096 }
+    ensures labels { result ≡ nibble_labels nibbles }
+    ensures bounds { All (λ label. label < 2 ^ label_bits TheIpv6) result }
+{
+    [
+        (nibbles % 16) as u8,
+        (nibbles / 16 % 16) as u8,
+        (nibbles / 256) as u8,
+    ]
 }

@@ -4,5 +4,8 @@
 mod apex;
 mod append;
 mod labels;
+mod lines;
+mod pooled;
 
 pub use apex::{Apex, read_apex};
+pub use pooled::in_pool;
