@@ -1,2 +1,6 @@
 pub mod Lengths
 pub mod Finding
+pub mod Members
+pub mod Parts
+pub mod Appended
+pub mod ZoneLines

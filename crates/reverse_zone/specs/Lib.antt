@@ -1,2 +1,3 @@
 pub mod Apex
 pub mod Zone
+pub mod Part

@@ -6,6 +6,7 @@ mod append;
 mod labels;
 mod lines;
 mod pooled;
+mod zone;
 
 pub use apex::{Apex, read_apex};
 pub use pooled::in_pool;
