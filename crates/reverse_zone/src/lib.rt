@@ -10,3 +10,4 @@ mod zone;
 
 pub use apex::{Apex, read_apex};
 pub use pooled::in_pool;
+pub use zone::write_zone;

@@ -4,17 +4,17 @@ ghost use Rattle.std.specs.List.{flat_map};
 ghost use Rattle.num_range.specs.Range.{ranges_meet};
 ghost use Rattle.reverse_zone.specs.Apex.{IsApex, apex_range};
 ghost use Rattle.reverse_zone.specs.Part.{part_inside};
-ghost use Rattle.reverse_zone.specs.Zone.{cuts_in, cut_lines};
+ghost use Rattle.reverse_zone.specs.Zone.{cuts_in, cut_lines, zone_text};
 
 use crate::Apex;
-use crate::lines::append_cut;
-use board::Body;
+use crate::lines::{append_cut, append_head};
+use board::{Board, Body};
 use cidr_cover::cuts;
 use cidr_cover::laws::cuts_are_widest;
 use num_range::Range;
 use num_range::laws::tests_are_relations;
-use reg_entry::Servers;
-use std::alloc::AllocError;
+use reg_entry::{Servers, ZoneTerms};
+use std::alloc::{AllocError, Global};
 use sub_book::RangeBook;
 
 /// The part of the range that lies in the other, which it meets.
@@ -51,7 +51,7 @@ fn append_cuts(
 }
 
 /// Appends the lines of all reverse entries' cuts that lie in the zone. Entries that have no number there aren't looked at.
-pub(crate) fn append_entries(
+fn append_entries(
     apex: Apex,
     reverses: &RangeBook<Servers>,
     body: &mut Body,
@@ -66,4 +66,21 @@ pub(crate) fn append_entries(
         append_cuts(apex, &range, &servers, body)?;
     }
     Ok(())
+}
+
+/// The zone of the apex as a master file (RFC 1035 5), in one pass over the reverse entries that have a number there. It
+/// takes memory for the text alone, which grows as `Body::append` says; without that it fails.
+pub fn write_zone(
+    alloc: Global,
+    board: &Board,
+    terms: &ZoneTerms,
+    apex: Apex,
+) -> Result<Body, AllocError>
+    requires { IsApex apex }
+    ensures { IfOk result (λ body. body ≡ zone_text board.now.register terms.now apex) }
+{
+    let mut body = Body::new(alloc);
+    append_head(apex, board.entries(), terms, &mut body)?;
+    append_entries(apex, board.reverse(), &mut body)?;
+    Ok(body)
 }
