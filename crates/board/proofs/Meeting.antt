@@ -1,9 +1,13 @@
 -- A range that meets another begins no later than it ends.
-use Rattle.std.proofs.Common.{◌≡◌, ℕ, ◌≤◌, ◌&&◌, true, nat_le, max, List, [], ◌∷◌, Some, inl, inr, sym, ◌∙◌, subst, arith}
+use Rattle.std.proofs.Common.{◌≡◌, ℕ, ◌≤◌, ◌&&◌, true, nat_le, max, List, [], ◌∷◌, Option, Some, inl, inr, sym, ◌∙◌, ap, subst, arith}
 use Rattle.std.proofs.lemmas.Bool.{cases_Bool, cond-true, cond-false, and_parts, leb-true}
 use Rattle.std.proofs.lemmas.Option.{none-some, same_Some}
+use Rattle.num_range.specs.declared.space.Space.{Space}
+use Rattle.num_range.specs.Number.{PlainNumber}
 use Rattle.num_range.specs.Range.{PlainRange, ranges_meet}
 use Rattle.num_range.specs.Space.{same_space}
+use Rattle.reg_entry.specs.declared.refusal.Refusal.{Refusal}
+use Rattle.reg_entry.specs.declared.refusal.Refusal.TheVariants.{Overlap}
 use Rattle.reg_entry.specs.Ranges.{first_meeting}
 
 begins_within : (s r : PlainRange) → ranges_meet s r ≡ true → s.first ≤ r.last
@@ -22,3 +26,13 @@ met_within (q ∷ qs) r p e =
 
 pub common_within : (a b last top n : ℕ) → n ≡ max a b → a ≤ last → b ≤ last → last ≤ top → n ≤ top
 common_within a b last top n e f g h = omega arith
+
+abbrev number : Space → ℕ → PlainNumber
+number space n = record { space = space; value = n }
+
+-- the refusal that gives the least number that two ranges have in common
+pub common_number : (space s : Space) (a b x y n : ℕ) (m : PlainNumber) → m ≡ number s n → s ≡ space → n ≡ max x y → x ≡ a → y ≡ b
+    → ◌≡◌ {A = Option Refusal} (Some (Overlap m)) (Some (Overlap (number space (max a b))))
+common_number space s a b x y n m e f g h k =
+    ap (λ (u : PlainNumber). Some (Overlap u))
+    (e ∙ ap (λ (t : Space). number t n) f ∙ ap (number space) (g ∙ ap (λ (u : ℕ). max u y) h ∙ ap (λ (u : ℕ). max a u) k))

@@ -34,13 +34,12 @@ use Rattle.reg_entry.specs.Holdings.{held_by, held_by_card, allocated_by, alloca
 use Rattle.reg_laws.specs.Reached.{IsReached}
 use Rattle.board.specs.declared.board.Board.TheInside.{Inside as BoardInside}
 use Rattle.reg_entry.specs.declared.entry.Entry.TheInside.{Inside as EntryInside}
-use Rattle.board.specs.Kinds.{asks_for_no_reverse}
 use Rattle.board.specs.Kept.{register_of, AreHoldingsIn, IsKeptIn}
 use Rattle.board.proofs.Splitting.{split_adds}
 
 -- the register and the entry of the fields
 abbrev pub register_in : BoardInside → Register
-register_in b = register_of b.rooms b.entries b.first_day b.last_day b.pieces b.holders b.subs
+register_in b = register_of b.rooms b.entries b.first_day b.last_day b.pieces b.holders b.subs b.reverse
 
 abbrev pub entry_in : EntryInside → PlainEntry
 entry_in e = record { seq = e.seq; day = e.day; who = e.who; request = e.request; cover = e.cover; card = e.card }
@@ -70,23 +69,6 @@ same_subs (Join at) day hs subs a b = refl
 same_subs (Transfer range from to) day hs subs a b = refl
 same_subs (SetReverse range servers) day hs subs a b = refl
 same_subs (ClearReverse range) day hs subs a b = refl
-
-no_reverses : (request : Request) → asks_for_no_reverse request ≡ true → reverses_after request [] ≡ []
-no_reverses (Receive range) e = refl
-no_reverses (AddHolder holder) e = refl
-no_reverses (EditHolder holder) e = refl
-no_reverses (Delegate space amount status handle) e = refl
-no_reverses (Reserve range) e = refl
-no_reverses (Unreserve range) e = refl
-no_reverses (SubAssign range handle) e = refl
-no_reverses (SubReturn range) e = refl
-no_reverses (Return range handle) e = refl
-no_reverses (Release range) e = refl
-no_reverses (Split at) e = refl
-no_reverses (Join at) e = refl
-no_reverses (Transfer range from to) e = refl
-no_reverses (SetReverse range servers) e = absurd (both_ways false refl e)
-no_reverses (ClearReverse range) e = refl
 
 -- a request that adds and edits no holder leaves the holders
 pub same_holders : (request : Request) (day : ℕ) (hs : List (Holder × ℕ)) → ((holder : Holder) → request ≡ AddHolder holder → ⊥)
@@ -159,39 +141,40 @@ with_parts rooms entries first last pool holders subs reverses = record {
   reverses = reverses;
 }
 
-pub register_is : (rooms : Rooms) (entries first last : ℕ) (ps qs : PlainBook) (hs ks : PlainHolderBook) (ss ts : PlainRangeBook SubCard) (e : PlainEntry) (day : ℕ)
-    → asks_for_no_reverse e.request ≡ true → day ≡ cond (entries == 0) e.day first
+pub register_is : (rooms : Rooms) (entries first last : ℕ) (ps qs : PlainBook) (hs ks : PlainHolderBook) (ss ts : PlainRangeBook SubCard)
+    (vs ws : PlainRangeBook (List (List ℕ))) (e : PlainEntry) (day : ℕ) → day ≡ cond (entries == 0) e.day first
     → qs.partition ≡ pool_after e.request e.cover e.card ps.partition → ks.holders ≡ holders_after e.request e.day hs.holders
-    → ts.ranges ≡ subs_after e.request e.day hs.holders ss.ranges
-    → register_of rooms (entries + 1) day e.day qs ks ts ≡ after_entry (register_of rooms entries first last ps hs ss) e
-register_is rooms entries first last ps qs hs ks ss ts e day kind f p h s =
-    ap (λ (d : ℕ). with_parts rooms (entries + 1) d e.day qs.partition ks.holders ts.ranges []) f
-    ∙ ap (λ (x : Partition). with_parts rooms (entries + 1) (cond (entries == 0) e.day first) e.day x ks.holders ts.ranges []) p
+    → ts.ranges ≡ subs_after e.request e.day hs.holders ss.ranges → ws.ranges ≡ reverses_after e.request vs.ranges
+    → register_of rooms (entries + 1) day e.day qs ks ts ws ≡ after_entry (register_of rooms entries first last ps hs ss vs) e
+register_is rooms entries first last ps qs hs ks ss ts vs ws e day f p h s v =
+    ap (λ (d : ℕ). with_parts rooms (entries + 1) d e.day qs.partition ks.holders ts.ranges ws.ranges) f
+    ∙ ap (λ (x : Partition). with_parts rooms (entries + 1) (cond (entries == 0) e.day first) e.day x ks.holders ts.ranges ws.ranges) p
     ∙ ap (λ (x : List (Holder × ℕ)). with_parts rooms (entries + 1) (cond (entries == 0) e.day first) e.day
-    (pool_after e.request e.cover e.card ps.partition) x ts.ranges []) h
+    (pool_after e.request e.cover e.card ps.partition) x ts.ranges ws.ranges) h
     ∙ ap (λ (x : List (PlainRange × SubCard)). with_parts rooms (entries + 1) (cond (entries == 0) e.day first) e.day
-    (pool_after e.request e.cover e.card ps.partition) (holders_after e.request e.day hs.holders) x []) s
+    (pool_after e.request e.cover e.card ps.partition) (holders_after e.request e.day hs.holders) x ws.ranges) s
     ∙ ap (λ (x : List (PlainRange × List (List ℕ))). with_parts rooms (entries + 1) (cond (entries == 0) e.day first) e.day
-    (pool_after e.request e.cover e.card ps.partition) (holders_after e.request e.day hs.holders) (subs_after e.request e.day hs.holders ss.ranges) x)
-    (sym (no_reverses e.request kind))
+    (pool_after e.request e.cover e.card ps.partition) (holders_after e.request e.day hs.holders) (subs_after e.request e.day hs.holders ss.ranges) x) v
 
-pub kept_by : (rooms : Rooms) (entries first last : ℕ) (ps qs : PlainBook) (hs ks : PlainHolderBook) (ss ts : PlainRangeBook SubCard) (e : PlainEntry) (day : ℕ)
-    (book more : PlainHoldingBook) → IsKeptIn (register_of rooms entries first last ps hs ss) ps.room hs.room ss.room book
-    → IsReached (after_entry (register_of rooms entries first last ps hs ss) e)
-    → asks_for_no_reverse e.request ≡ true → day ≡ cond (entries == 0) e.day first
+pub kept_by : (rooms : Rooms) (entries first last : ℕ) (ps qs : PlainBook) (hs ks : PlainHolderBook) (ss ts : PlainRangeBook SubCard)
+    (vs ws : PlainRangeBook (List (List ℕ))) (e : PlainEntry) (day : ℕ) (book more : PlainHoldingBook)
+    → IsKeptIn (register_of rooms entries first last ps hs ss vs) ps.room hs.room ss.room vs.room book
+    → IsReached (after_entry (register_of rooms entries first last ps hs ss vs) e) → day ≡ cond (entries == 0) e.day first
     → qs.partition ≡ pool_after e.request e.cover e.card ps.partition → qs.room ≡ ps.room
     → ks.holders ≡ holders_after e.request e.day hs.holders → ks.room ≡ hs.room
     → ts.ranges ≡ subs_after e.request e.day hs.holders ss.ranges → ts.room ≡ ss.room
-    → AreHoldingsIn (after_entry (register_of rooms entries first last ps hs ss) e) more → more.room ≡ book.room
-    → IsKeptIn (register_of rooms (entries + 1) day e.day qs ks ts) qs.room ks.room ts.room more
-kept_by rooms entries first last ps qs hs ks ss ts e day book more kept reached kind f p pr h hr s sr holdings mr =
-    subst (λ (x : Register). IsKeptIn x qs.room ks.room ts.room more) (sym (register_is rooms entries first last ps qs hs ks ss ts e day kind f p h s))
+    → ws.ranges ≡ reverses_after e.request vs.ranges → ws.room ≡ vs.room
+    → AreHoldingsIn (after_entry (register_of rooms entries first last ps hs ss vs) e) more → more.room ≡ book.room
+    → IsKeptIn (register_of rooms (entries + 1) day e.day qs ks ts ws) qs.room ks.room ts.room ws.room more
+kept_by rooms entries first last ps qs hs ks ss ts vs ws e day book more kept reached f p pr h hr s sr v vr holdings mr =
+    subst (λ (x : Register). IsKeptIn x qs.room ks.room ts.room ws.room more) (sym (register_is rooms entries first last ps qs hs ks ss ts vs ws e day f p h s v))
     (record {
       reached = reached;
       rooms = kept.rooms;
       pieces = pr ∙ kept.pieces;
       holders = hr ∙ kept.holders;
       subs = sr ∙ kept.subs;
+      reverse = vr ∙ kept.reverse;
       holding_room = mr ∙ kept.holding_room;
       holdings = holdings;
     })

@@ -1,5 +1,5 @@
--- What each board keeps: a register that a legal list of entries gives, with no reverse entries yet.
-use Rattle.std.specs.Prelude.{◌≡◌, ℕ, [], length}
+-- What each board keeps: a register that a legal list of entries gives.
+use Rattle.std.specs.Prelude.{◌≡◌, ℕ, List, length}
 use Rattle.num_range.specs.declared.space.Space.{Space}
 use Rattle.reg_entry.specs.declared.rooms.Rooms.{Rooms}
 use Rattle.reg_entry.specs.Rooms.{AreRooms}
@@ -13,8 +13,8 @@ use Rattle.holder_book.specs.Book.{PlainHolderBook}
 use Rattle.reg_laws.specs.Reached.{IsReached}
 
 -- the register of these parts
-abbrev pub register_of : Rooms → ℕ → ℕ → ℕ → PlainBook → PlainHolderBook → PlainRangeBook SubCard → Register
-register_of rooms entries first_day last_day pieces holders subs = record {
+abbrev pub register_of : Rooms → ℕ → ℕ → ℕ → PlainBook → PlainHolderBook → PlainRangeBook SubCard → PlainRangeBook (List (List ℕ)) → Register
+register_of rooms entries first_day last_day pieces holders subs reverse = record {
   rooms = rooms;
   entries = entries;
   first_day = first_day;
@@ -22,7 +22,7 @@ register_of rooms entries first_day last_day pieces holders subs = record {
   pool = pieces.partition;
   holders = holders.holders;
   subs = subs.ranges;
-  reverses = [];
+  reverses = reverse.ranges;
 }
 
 -- the holdings are what the pieces and the subs say of each holder
@@ -33,11 +33,12 @@ pub record AreHoldingsIn (r : Register) (book : PlainHoldingBook) : Type 0 where
   pub used : (holder : ℕ) (space : Space) → used_in book holder space ≡ used r holder space
 
 -- the register is reached, and the books have the rooms that it has
-pub record IsKeptIn (r : Register) (piece_room holder_room sub_room : ℕ) (book : PlainHoldingBook) : Type 0 where
+pub record IsKeptIn (r : Register) (piece_room holder_room sub_room reverse_room : ℕ) (book : PlainHoldingBook) : Type 0 where
   pub reached : IsReached r
   pub rooms : AreRooms r.rooms
   pub pieces : piece_room ≡ r.rooms.pieces
   pub holders : holder_room ≡ r.rooms.holders
   pub subs : sub_room ≡ r.rooms.subs
+  pub reverse : reverse_room ≡ r.rooms.reverse
   pub holding_room : book.room ≡ r.rooms.holders
   pub holdings : AreHoldingsIn r book

@@ -1,4 +1,3 @@
-pub mod Kinds
 pub mod Kept
 pub mod FoundPiece
 pub mod Starts

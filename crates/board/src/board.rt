@@ -3,12 +3,12 @@ ghost use Rattle.std.specs.Prelude.{◌≡◌, ℕ, ◌+◌, ◌<◌, ◌≤◌,
 ghost use Rattle.reg_entry.specs.Rooms.{AreRooms};
 ghost use Rattle.reg_laws.specs.Narrowest.{looked_up};
 
-use crate::books::{add_sub, card_over, edit, exchange, size, use_less, use_more};
+use crate::books::{add_sub, card_over, change_reverse, edit, exchange, size, use_less, use_more};
 use holder_book::HolderBook;
 use holding_book::HoldingBook;
 use num_range::{Range, Space};
 use piece_book::PieceBook;
-use reg_entry::{Entry, Found, Piece, Request, Rooms, SubCard};
+use reg_entry::{Entry, Found, Piece, Request, Rooms, Servers, SubCard};
 use reg_laws::holders::next_entries_know_holders;
 use reg_laws::holdings::{
     holdings_are_bounded, next_entries_change_holdings, next_entries_take_what_is_held,
@@ -23,6 +23,7 @@ use reg_laws::reached::{
     entries_reach_registers, last_cards_change_inside_covers, reached_registers_are_whole,
     reached_registers_conserve, reached_registers_count,
 };
+use reg_laws::reverses::next_entries_fit_reverses;
 use reg_laws::subs::next_entries_fit_subs;
 use reg_laws::usage::{next_entries_change_use, next_entries_take_what_is_used, use_is_bounded};
 use std::alloc::{AllocError, Global};
@@ -35,6 +36,7 @@ pub struct Board {
     pieces: PieceBook,
     holders: HolderBook,
     subs: RangeBook<SubCard>,
+    reverse: RangeBook<Servers>,
     holdings: HoldingBook,
     rooms: Rooms,
     entries: u64,
@@ -50,9 +52,9 @@ impl Model for Board {
     ghost Value = { PlainBoard };
 
     // No operations are kept yet.
-    ghost view = { λ b. record { register = register_of b.rooms b.entries b.first_day b.last_day b.pieces b.holders b.subs; serial = 0; kept = [] } };
+    ghost view = { λ b. record { register = register_of b.rooms b.entries b.first_day b.last_day b.pieces b.holders b.subs b.reverse; serial = 0; kept = [] } };
 
-    ghost invariant = { λ b. IsKeptIn (register_of b.rooms b.entries b.first_day b.last_day b.pieces b.holders b.subs) b.pieces.room b.holders.room b.subs.room b.holdings };
+    ghost invariant = { λ b. IsKeptIn (register_of b.rooms b.entries b.first_day b.last_day b.pieces b.holders b.subs b.reverse) b.pieces.room b.holders.room b.subs.room b.reverse.room b.holdings };
 }
 
 /// The day of the first entry, once there was one more on a day.
@@ -91,7 +93,6 @@ impl Board {
     ghost use Rattle.reg_entry.specs.Whole.{IsWholeRegister};
     ghost use Rattle.std.specs.Prelude.{List};
     ghost use Rattle.reg_entry.specs.Entry.{PlainEntry};
-    ghost use Rattle.board.specs.Kinds.{asks_for_no_reverse};
     ghost use Rattle.board.specs.Conserved.{IsConservedBy, ChangesCards};
     ghost use Rattle.reg_laws.specs.Reached.{IsReached, IsRegisterOf};
 
@@ -104,6 +105,7 @@ impl Board {
             pieces: PieceBook::with_room(alloc, rooms.pieces)?,
             holders: HolderBook::with_room(alloc, rooms.holders)?,
             subs: RangeBook::with_room(alloc, rooms.subs)?,
+            reverse: RangeBook::with_room(alloc, rooms.reverse)?,
             holdings: HoldingBook::with_room(alloc, rooms.holders)?,
             rooms,
             entries: 0,
@@ -115,7 +117,6 @@ impl Board {
     /// Takes in the next entry. Where legal entries gave the register, they and this one give the new one; of each number
     /// that lies outside the entry's cover the last card stays, and of every number where the entry cuts or joins pieces.
     pub fn apply(&mut self, e: &Entry)
-        requires kind { asks_for_no_reverse e.now.request ≡ true }
         requires next { IsNextEntry self.old.register e.now }
         ensures register { self.new.register ≡ after_entry self.old.register e.now }
         ensures entries { (es : List PlainEntry) → IsRegisterOf self.old.register es
@@ -129,7 +130,6 @@ impl Board {
 
     /// Changes the books as the entry says.
     fn take_in(&mut self, e: &Entry)
-        requires kind { asks_for_no_reverse e.now.request ≡ true }
         requires next { IsNextEntry self.old.register e.now }
         ensures { self.new.register ≡ after_entry self.old.register e.now }
     {
@@ -145,12 +145,14 @@ impl Board {
         next_entries_take_what_is_held();
         holdings_are_bounded();
         next_entries_fit_subs();
+        next_entries_fit_reverses();
         next_entries_change_use();
         next_entries_take_what_is_used();
         use_is_bounded();
         self.first_day = first_day_after(self.entries, self.first_day, e.day);
         self.last_day = e.day;
         self.entries += 1;
+        change_reverse(&mut self.reverse, &e.request);
         match &e.request {
             Request::AddHolder { holder } => {
                 self.holders.add(holder, e.day);
@@ -247,6 +249,14 @@ impl Board {
         &self.subs
     }
 
+    /// The reverse entries, by their ranges.
+    pub fn reverse(&self) -> &RangeBook<Servers>
+        ensures reverses { result.now.ranges ≡ self.now.register.reverses }
+        ensures room { result.now.room ≡ self.now.register.rooms.reverse }
+    {
+        &self.reverse
+    }
+
     /// How many entries there are.
     pub fn entries(&self) -> u64
         ensures entries { result ≡ self.now.register.entries }
@@ -308,12 +318,5 @@ impl Board {
         ensures bounds { AreRooms self.now.register.rooms }
     {
         self.rooms
-    }
-
-    /// Tells that there are no reverse entries yet.
-    pub fn has_no_reverses(&self)
-        ensures { self.now.register.reverses ≡ [] }
-    {
-        let _ = &self.rooms;
     }
 }

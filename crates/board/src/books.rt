@@ -1,20 +1,22 @@
 //! How the books behind a board change with an entry.
-ghost use Rattle.std.specs.Prelude.{◌≡◌, ℕ, ◌+◌, ◌<◌, ◌≤◌, ◌^◌, true, None, length, IsSome, IfSome};
+ghost use Rattle.std.specs.Prelude.{◌≡◌, ℕ, ◌+◌, ◌<◌, ◌≤◌, ◌^◌, true, List, None, length, IsSome, IfSome};
 ghost use Rattle.num_range.specs.declared.space.Space.{Space as TheSpace};
-ghost use Rattle.num_range.specs.Range.{size_of};
+ghost use Rattle.num_range.specs.Range.{PlainRange, size_of};
+ghost use Rattle.reg_entry.specs.declared.request.Request.TheVariants.{Return, SetReverse, ClearReverse};
 ghost use Rattle.reg_entry.specs.Covers.{first_number};
 ghost use Rattle.reg_entry.specs.Holders.{holder_number, edited_holder};
 ghost use Rattle.reg_entry.specs.Holdings.{gives_held, held_by, allocated_by, held_by_card, allocated_by_card};
 ghost use Rattle.reg_entry.specs.Pieces.{IsPoolRange};
-ghost use Rattle.reg_entry.specs.Ranges.{first_meeting};
-ghost use Rattle.reg_entry.specs.Register.{card_of, with_sub};
+ghost use Rattle.reg_entry.specs.Ranges.{first_meeting, value_of_range};
+ghost use Rattle.reg_entry.specs.Register.{card_of, with_sub, reverses_after};
+ghost use Rattle.sub_book.specs.Book.{NoneStraddles};
 ghost use Rattle.holding_book.specs.Book.{held_in, allocated_in, used_in, used_of, used_of_card};
 
 use holder_book::HolderBook;
 use holding_book::HoldingBook;
 use num_range::Range;
 use piece_book::PieceBook;
-use reg_entry::{Card, Handle, Holder, SubCard};
+use reg_entry::{Card, Handle, Holder, Request, Servers, SubCard};
 use sub_book::RangeBook;
 
 /// Gives the holder of a known handle other fields.
@@ -50,6 +52,26 @@ pub(crate) fn add_sub(
 {
     if let Some(holder) = holders.by_handle(handle) {
         subs.put(*range, SubCard { holder, day });
+    }
+}
+
+/// Sets or takes out the reverse entry that the request names, or takes out those inside a range that it returns.
+pub(crate) fn change_reverse(reverse: &mut RangeBook<Servers>, request: &Request)
+    requires free { (range : PlainRange) (servers : List (List ℕ)) → request.now ≡ SetReverse range servers
+        → value_of_range reverse.old.ranges range ≡ None → first_meeting reverse.old.ranges range ≡ None }
+    requires room { (range : PlainRange) (servers : List (List ℕ)) → request.now ≡ SetReverse range servers
+        → value_of_range reverse.old.ranges range ≡ None → length reverse.old.ranges < reverse.old.room }
+    requires there { (range : PlainRange) → request.now ≡ ClearReverse range → IsSome (value_of_range reverse.old.ranges range) }
+    requires unstraddled { (range : PlainRange) (handle : List ℕ) → request.now ≡ Return range handle
+        → NoneStraddles reverse.old.ranges range }
+    ensures reverses { reverse.new.ranges ≡ reverses_after request.now reverse.old.ranges }
+    ensures room { reverse.new.room ≡ reverse.old.room }
+{
+    match request {
+        Request::SetReverse { range, servers } => reverse.put(*range, *servers),
+        Request::ClearReverse { range } => reverse.take_out(range),
+        Request::Return { range, .. } => reverse.drop_inside(range),
+        _ => {}
     }
 }
 

@@ -1,15 +1,13 @@
 //! Whether the register knows what a request speaks of, and it may be asked of it.
-ghost use Rattle.std.specs.Prelude.{◌≡◌, true};
-ghost use Rattle.num_range.specs.Range.{PlainRange};
-ghost use Rattle.reg_entry.specs.declared.request.Request.TheVariants.{SubAssign, Return, Transfer, Split, Join};
+ghost use Rattle.std.specs.Prelude.{◌≡◌};
+ghost use Rattle.reg_entry.specs.declared.request.Request.TheVariants.{SubAssign, Return, Transfer, Split, Join, SetReverse};
 ghost use Rattle.reg_entry.specs.Decision.{first_of, early_rules};
-ghost use Rattle.board.specs.Kinds.{asks_for_no_reverse};
 
 use crate::Board;
 use crate::conditions::begins_space;
 use crate::pooled::outside_unicast;
 use num_range::{Number, Range};
-use reg_entry::{Handle, Refusal, Request, Status};
+use reg_entry::{Handle, Refusal, Request, Servers, Status};
 
 impl Board {
     fn sub_assign_refusal(&self, range: &Range, handle: &Handle) -> Option<Refusal>
@@ -62,9 +60,18 @@ impl Board {
             .or_else(|| self.cards_differ(at))
     }
 
+    fn set_reverse_refusal(&self, range: &Range, servers: &Servers) -> Option<Refusal>
+        ensures { result ≡ first_of (early_rules self.now.register (SetReverse range.now servers.now)) }
+    {
+        let _ = servers;
+        self.outside_pool(range)
+            .or_else(|| self.not_in_one_piece(range))
+            .or_else(|| self.not_delegated(range.first_number()))
+            .or_else(|| self.meets_reverse(range))
+    }
+
     /// Why the register can't do what is asked for, whatever the day and whatever the policy says, or nothing.
     pub fn early_refusal(&self, request: &Request) -> Option<Refusal>
-        requires { asks_for_no_reverse request.now ≡ true }
         ensures { result ≡ first_of (early_rules self.now.register request.now) }
     {
         match request {
@@ -92,7 +99,8 @@ impl Board {
             Request::Split { at } => self.split_refusal(*at),
             Request::Join { at } => self.join_refusal(*at),
             Request::Transfer { range, from, to } => self.transfer_refusal(range, from, to),
-            Request::SetReverse { .. } | Request::ClearReverse { .. } => unreachable!(),
+            Request::SetReverse { range, servers } => self.set_reverse_refusal(range, servers),
+            Request::ClearReverse { range } => self.no_reverse(range),
         }
     }
 }

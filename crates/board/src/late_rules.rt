@@ -1,5 +1,5 @@
 //! Whether a request may be done on a day, and there is room.
-ghost use Rattle.std.specs.Prelude.{◌≡◌, ◌≤◌, ◌^◌, true, None};
+ghost use Rattle.std.specs.Prelude.{◌≡◌, ◌≤◌, ◌^◌, None};
 ghost use Rattle.num_range.specs.Number.{PlainNumber};
 ghost use Rattle.reg_entry.specs.declared.request.Request.TheVariants.{Split};
 ghost use Rattle.reg_entry.specs.Decision.{first_of, late_rules, refuse_if, journal_full, holders_full, within_hold_time, not_due, has_subs, straddled, no_block};
@@ -7,9 +7,9 @@ ghost use Rattle.reg_entry.specs.declared.refusal.Refusal.TheVariants.{RegisterF
 ghost use Rattle.reg_entry.specs.Partition.{piece_count};
 ghost use Rattle.reg_entry.specs.Register.{painted, reshaped};
 ghost use Rattle.std.specs.Prelude.{nat_lt};
-ghost use Rattle.board.specs.Kinds.{asks_for_no_reverse};
 
 use crate::Board;
+use crate::reverse_conditions::no_reverse_space;
 use num_range::{Number, Range};
 use reg_entry::{Card, Refusal, Request};
 
@@ -87,7 +87,6 @@ impl Board {
         cover: &Option<Range>,
         card: &Option<Card>,
     ) -> Option<Refusal>
-        requires kind { asks_for_no_reverse request.now ≡ true }
         requires split { (at : PlainNumber) → request.now ≡ Split at → card.now ≡ None }
         ensures { result ≡ first_of (late_rules self.now.register request.now day cover.now card.now) }
     {
@@ -115,8 +114,11 @@ impl Board {
             Request::EditHolder { .. }
             | Request::Unreserve { .. }
             | Request::SubReturn { .. }
-            | Request::Join { .. } => self.journal_full(),
-            Request::SetReverse { .. } | Request::ClearReverse { .. } => unreachable!(),
+            | Request::Join { .. }
+            | Request::ClearReverse { .. } => self.journal_full(),
+            Request::SetReverse { range, .. } => no_reverse_space(range)
+                .or_else(|| self.journal_full())
+                .or_else(|| self.reverse_full(range)),
         }
     }
 }

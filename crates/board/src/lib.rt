@@ -6,16 +6,15 @@ mod books;
 mod conditions;
 mod covers;
 mod early_rules;
-mod kinds;
 mod late_rules;
 mod lens;
 mod next;
 mod pooled;
+mod reverse_conditions;
 mod sub_conditions;
 #[cfg(test)]
 mod tests;
 
 pub use board::Board;
-pub use kinds::asks_for_no_reverse;
 pub use lens::{Answer, Body, Lens, Media};
-pub use reg_entry::{Found, Rooms, SubCard};
+pub use reg_entry::{Found, Rooms, Servers, SubCard};

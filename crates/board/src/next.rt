@@ -11,7 +11,6 @@ ghost use Rattle.reg_entry.specs.Days.{last_date};
 ghost use Rattle.reg_entry.specs.Request.{has_size, amount_size};
 ghost use Rattle.num_range.specs.Number.{PlainNumber};
 ghost use Rattle.reg_entry.specs.declared.request.Request.TheVariants.{Split};
-ghost use Rattle.board.specs.Kinds.{asks_for_no_reverse};
 ghost use Rattle.board.specs.Starts.{MayStartAt};
 ghost use Rattle.board.specs.Free.{reaches_free};
 
@@ -152,7 +151,6 @@ impl Board {
     /// Whether the entry may come next: its number, day, cover and card are those of its request, and no rule of the
     /// register is against it. The policy isn't asked, since it may have changed since.
     pub fn is_next(&self, e: &Entry) -> bool
-        requires { asks_for_no_reverse e.now.request ≡ true }
         ensures { result ≡ may_come_next self.now.register e.now }
     {
         e.request.has_ranges();

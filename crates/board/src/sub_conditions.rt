@@ -36,12 +36,14 @@ impl Board {
         Refusal::SubsFull { room }.when(room <= self.subs().len())
     }
 
-    /// A sub would be cut. There are no reverse entries yet.
+    /// A sub, or else a reverse entry, would be cut.
     pub(crate) fn straddled(&self, at: Number) -> Option<Refusal>
         ensures { result ≡ straddled self.now.register at }
     {
-        self.has_no_reverses();
-        let range = self.subs().straddling(at)?;
+        let range = self
+            .subs()
+            .straddling(at)
+            .or_else(|| self.reverse().straddling(at))?;
         Some(Refusal::Straddled { range })
     }
 }

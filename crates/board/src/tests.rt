@@ -1,9 +1,10 @@
 //! Registers that entries build one by one, each of them only where it may come next. The ranges are of 192.0.2.0/24
 //! (RFC 5737), by their last octets.
-use crate::{Board, Found, asks_for_no_reverse};
+use crate::{Board, Found};
 use num_range::{Number, Range, Space};
 use reg_entry::{
-    Card, Cc, Delegation, Entry, Handle, Holder, Kind, Name, Request, Rooms, Status, Text,
+    Card, Cc, Delegation, Entry, Handle, Holder, Host, Kind, Name, Refusal, Request, Rooms,
+    Servers, Status, Text,
 };
 use std::test::Fail;
 
@@ -16,6 +17,11 @@ const DUE: u32 = 19813;
 
 /// 2025-03-01, a hold time of 365 days later.
 const HELD: u32 = 20148;
+
+/// Two name servers.
+const ONE: &[u8] = b"ns1.alpha.example";
+
+const OTHER: &[u8] = b"ns2.alpha.example";
 
 const NET: u128 = 0xc000_0200;
 
@@ -222,12 +228,33 @@ fn sub_returned(first: u128, last: u128) -> Option<Step> {
     })
 }
 
+/// A range gets the one name server, or has none any longer.
+fn reversed(first: u128, last: u128, host: &[u8]) -> Option<Step> {
+    Some(Step {
+        day: DAY,
+        request: Request::SetReverse {
+            range: range(first, last)?,
+            servers: Servers::new(&[Host::read(host)?])?,
+        },
+        cover: None,
+        card: None,
+    })
+}
+
+fn unreversed(first: u128, last: u128) -> Option<Step> {
+    Some(Step {
+        day: DAY,
+        request: Request::ClearReverse {
+            range: range(first, last)?,
+        },
+        cover: None,
+        card: None,
+    })
+}
+
 /// Takes an entry in where it may come next, and says whether it was.
 fn taken(board: &mut Board, step: &Option<Step>) -> Option<bool> {
     let step = step.as_ref()?;
-    if !asks_for_no_reverse(&step.request) {
-        return None;
-    }
     let entry = Entry {
         seq: board.entries() + 1,
         day: step.day,
@@ -339,6 +366,29 @@ fn subs() -> [(Option<Step>, bool); 11] {
         (split(48), false),
         (split(64), true),
         (transferred(DAY, b"ORG-A", b"ORG-B", 1, HELD), true),
+    ]
+}
+
+/// One reverse entry takes all the room, and other servers of its range need none.
+fn reverses() -> [(Option<Step>, bool); 6] {
+    [
+        (delegated(DAY, 25, 0, 127), true),
+        (reversed(120, 130, ONE), false),
+        (reversed(200, 207, ONE), false),
+        (reversed(64, 127, ONE), true),
+        (reversed(32, 95, ONE), false),
+        (reversed(64, 127, OTHER), true),
+    ]
+}
+
+/// A piece that goes back takes its reverse entries along, and no others.
+fn reverses_taken_out() -> [(Option<Step>, bool); 5] {
+    [
+        (unreversed(64, 127), true),
+        (reversed(0, 31, ONE), true),
+        (split(64), true),
+        (returned(64, 127, DUE), true),
+        (unreversed(0, 63), false),
     ]
 }
 
@@ -496,5 +546,64 @@ fn subs_are_assigned_found_and_taken_back(rt: HostRuntime) -> Result<(), Fail> {
     let mut board = Board::with_room(rt.alloc(), ROOMS)?;
     assert_eq!(rt; wrong_after(&mut board, &subs()), None);
     assert!(rt; has_subs(&mut board));
+    Ok(())
+}
+
+/// Why a step that paints nothing is refused, or nothing.
+fn refusal(board: &Board, step: &Option<Step>) -> Option<Refusal> {
+    let step = step.as_ref()?;
+    let early = board.early_refusal(&step.request);
+    if early.is_some() {
+        return early;
+    }
+    board.late_refusal(&step.request, step.day, &None, &None)
+}
+
+/// AS numbers get no name servers.
+fn refuses_numbers(board: &Board) -> Option<bool> {
+    let request = Request::SetReverse {
+        range: Range::new(Space::Asn, 64496, 64496)?,
+        servers: Servers::new(&[Host::read(ONE)?])?,
+    };
+    let late = board.late_refusal(&request, DAY, &None, &None);
+    Some(late == Some(Refusal::NoReverseSpace))
+}
+
+/// The reasons that the reverse entry of the upper half gives, and what there is room for.
+fn refuses_by_reverse(board: &Board) -> Option<bool> {
+    let range = range(64, 127)?;
+    Some(
+        refusal(board, &reversed(32, 95, ONE))
+            == Some(Refusal::Overlap {
+                number: number(64)?,
+            })
+            && refusal(board, &reversed(96, 127, ONE))
+                == Some(Refusal::Overlap {
+                    number: number(96)?,
+                })
+            && refusal(board, &reversed(0, 63, ONE)) == Some(Refusal::ReverseFull { room: 1 })
+            && refusal(board, &reversed(64, 127, ONE)).is_none()
+            && refusal(board, &unreversed(64, 95)) == Some(Refusal::NoReverse)
+            && refusal(board, &split(96)) == Some(Refusal::Straddled { range })
+            && board.reverse().exact(&range) == Servers::new(&[Host::read(OTHER)?]),
+    )
+}
+
+fn reverses_go(board: &mut Board) -> bool {
+    first_wrong(board, &reverses_taken_out()).is_none()
+        && board.reverse().len() == 1
+        && taken(board, &returned(0, 63, DUE)) == Some(true)
+        && board.reverse().len() == 0
+}
+
+fn keeps_reverses(board: &mut Board) -> Option<bool> {
+    let set = wrong_after(board, &reverses()).is_none();
+    Some(set && refuses_by_reverse(board)? && refuses_numbers(board)? && reverses_go(board))
+}
+
+#[test]
+fn reverse_entries_are_set_and_taken_out(rt: HostRuntime) -> Result<(), Fail> {
+    let mut board = Board::with_room(rt.alloc(), ROOMS)?;
+    assert_eq!(rt; keeps_reverses(&mut board), Some(true));
     Ok(())
 }

@@ -33,10 +33,10 @@ use Rattle.reg_laws.proofs.WholeLists.{IsInside, some_and, inside_allocated, sub
 
 -- ---- what no rule is against
 
-early_of : (r : Register) (e : PlainEntry) (request : Request) → IsNextEntry r e → e.request ≡ request → first_of (early_rules r request) ≡ None
+pub early_of : (r : Register) (e : PlainEntry) (request : Request) → IsNextEntry r e → e.request ≡ request → first_of (early_rules r request) ≡ None
 early_of r e request next is = subst (λ q. first_of (early_rules r q) ≡ None) is (next_facts r e next).early
 
-late_of : (r : Register) (e : PlainEntry) (request : Request) → IsNextEntry r e → e.request ≡ request
+pub late_of : (r : Register) (e : PlainEntry) (request : Request) → IsNextEntry r e → e.request ≡ request
     → first_of (late_rules r request e.day e.cover e.card) ≡ None
 late_of r e request next is = subst (λ q. first_of (late_rules r q e.day e.cover e.card) ≡ None) is (next_facts r e next).late
 

@@ -26,6 +26,7 @@ pub mod HoldingFacts
 pub mod Knowing
 pub mod Enclosing
 pub mod Fitting
+pub mod ReversesFitting
 pub mod LookedUp
 pub mod RangeSums
 pub mod UseFacts

@@ -199,7 +199,7 @@ reverse_moved r s test keeps x untested h = record {
   servers = h.1.servers;
 }
 
-reverses_known : (r : Register) → AreApart r.reverses → AreReversesIn r r.reverses → AllOf (λ x. IsRange x.0 × IsReverseIn r x) r.reverses
+pub reverses_known : (r : Register) → AreApart r.reverses → AreReversesIn r r.reverses → AllOf (λ x. IsRange x.0 × IsReverseIn r x) r.reverses
 reverses_known r apart h =
     all_and (λ x. IsRange x.0) (IsReverseIn r) r.reverses (ranges_of_apart r.reverses apart) (reverses_of_each r r.reverses h)
 
@@ -240,25 +240,29 @@ reverses_in r s (Split at) day cover card valid early late keeps apart h =
 reverses_in r s request day cover card valid early late keeps apart h =
     all_reverses_moved r s (touches request) keeps (none_at_all r.reverses) apart h
 
-pub reverses_apart : (r : Register) (request : Request) → is_request request ≡ true → first_of (early_rules r request) ≡ None
-    → AreApart r.reverses → AreApart (reverses_after request r.reverses)
-reverses_apart r (SetReverse range servers) valid early h =
-    let v = and_parts (is_range range) (is_server_count servers) valid in
+-- no reverse entry of another range has a number of one that is given name servers
+pub others_unmet : (r : Register) (range : PlainRange) (servers : List (List ℕ)) → first_of (early_rules r (SetReverse range servers)) ≡ None
+    → first_meeting (filter (λ s. not (same_range s.0 range)) r.reverses) range ≡ None
+others_unmet r range servers early =
     let a = or_none (outside_pool r range) _ early in
     let b = or_none (not_in_one_piece r range) _ a.1 in
     let c = or_none (wrong_status r (first_number range) is_delegated) _ b.1 in
     let d = or_none (meets_reverse r range) None c.1 in
     let others : List (PlainRange × List (List ℕ)) = filter (λ s. not (same_range s.0 range)) r.reverses in
-    let met : first_meeting others range ≡ None =
     map_none (λ s. first_common range s.0) (first_meeting others range)
-    (map_none (λ n. Overlap (record { space = range.space; value = n })) (option_map (λ s. first_common range s.0) (first_meeting others range)) d.0) in
+    (map_none (λ n. Overlap (record { space = range.space; value = n })) (option_map (λ s. first_common range s.0) (first_meeting others range)) d.0)
+
+pub reverses_apart : (r : Register) (request : Request) → is_request request ≡ true → first_of (early_rules r request) ≡ None
+    → AreApart r.reverses → AreApart (reverses_after request r.reverses)
+reverses_apart r (SetReverse range servers) valid early h =
+    let v = and_parts (is_range range) (is_server_count servers) valid in
     apart_with r.reverses range servers (range_valid range v.0) h
-    (none_of_both (λ s. not (same_range s.0 range)) (λ s. ranges_meet s.0 range) r.reverses met)
+    (none_of_both (λ s. not (same_range s.0 range)) (λ s. ranges_meet s.0 range) r.reverses (others_unmet r range servers early))
 reverses_apart r (ClearReverse range) valid early h = apart_filter (λ x. not (same_range x.0 range)) r.reverses h
 reverses_apart r (Return range handle) valid early h = apart_filter (λ x. not (lies_inside x.0 range)) r.reverses h
 reverses_apart r request valid early h = h
 
-room_or_there : (b full : Bool) → (not b && full) ≡ false → (b ≡ true) ⊎ (full ≡ false)
+pub room_or_there : (b full : Bool) → (not b && full) ≡ false → (b ≡ true) ⊎ (full ≡ false)
 room_or_there true full e = inl refl
 room_or_there false full e = inr e
 

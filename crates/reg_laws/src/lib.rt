@@ -11,6 +11,7 @@ pub mod objects;
 pub mod painting;
 pub mod pieces;
 pub mod reached;
+pub mod reverses;
 pub mod subs;
 pub mod usage;
 pub mod whole;

@@ -15,10 +15,24 @@ use Rattle.reg_entry.specs.Whole.{IsWholeRegister}
 use Rattle.reg_laws.specs.Reached.{IsReached}
 use Rattle.reg_entry.specs.Holdings.{held_by, allocated_by, held_by_card, allocated_by_card}
 use Rattle.holding_book.specs.Book.{held_in, allocated_in, used_in, used_of, used_of_card}
-use Rattle.board.specs.Kinds.{asks_for_no_reverse}
 use Rattle.board.proofs.Known.{known_holders}
 use Rattle.board.proofs.Steps.{register_is, register_in, entry_in, next_at, bare_card, kept_by, unchanged_holdings, exchanged_holdings, added_count, edited_count, same_holders, same_subs, used_holdings, taken_use, taken_sub, given_use, used_below, assigned_fits, now_used, no_longer_used, unshaped, pool_unpainted, pool_painted, split_place, split_room, paint_room, fits_in}
 use Rattle.board.proofs.board.Board.take_in.Goals as goal
+
+pub change_reverse-requires : goal.change_reverse-requires
+change_reverse-requires c =
+    let r : Register = register_in c.self.inside in
+    let e : PlainEntry = entry_in c.e.inside in
+    let next : IsNextEntry r e = next_at r c.args.self.now.register e c.args.e.now (ap (λ (b : PlainBoard). b.register) c.self.view_is) c.e.view_is c.requires.next in
+    let whole : IsWholeRegister r = c.reached_registers_are_whole.ensures r c.self.invariant.reached in
+    let fit = c.next_entries_fit_reverses.ensures in
+    record {
+      free = λ range servers is new. fit.free r e range servers next is new;
+      room = λ range servers is new. subst (λ (n : ℕ). length c.self.inside.reverse.ranges < n) (sym c.self.invariant.reverse)
+          (fit.room r e range servers next is new);
+      there = λ range is. fit.there r e range next is;
+      unstraddled = λ range handle is. fit.unstraddled r e range handle whole next is;
+    }
 
 pub add-requires-clause-room : goal.add-requires-clause-room
 add-requires-clause-room c =
@@ -47,12 +61,12 @@ invariant_of-self c =
     let kept = c.self.invariant in
     let whole : IsWholeRegister r = c.reached_registers_are_whole.ensures r kept.reached in
     let reached : IsReached (after_entry r e) = c.entries_reach_registers.ensures.next r e kept.reached next in
-    let kind = ap (λ (x : PlainEntry). asks_for_no_reverse x.request) c.e.view_is ∙ c.requires.kind in
     let bare : e.card ≡ None = bare_card r e (AddHolder c.in-AddHolder.holder) (c.next_entries_have_covers_and_cards.ensures.card r e next) c.in-AddHolder.is refl in
-    kept_by c.self.inside.rooms c.self.inside.entries c.self.inside.first_day c.self.inside.last_day c.self.inside.pieces c.self.inside.pieces c.self.inside.holders c.add.new.self c.self.inside.subs c.self.inside.subs e
-    c.first_day_after-self-inside.result c.self.inside.holdings c.add-in-AddHolder.new.self kept reached kind c.first_day_after-self-inside.ensures
+    kept_by c.self.inside.rooms c.self.inside.entries c.self.inside.first_day c.self.inside.last_day c.self.inside.pieces c.self.inside.pieces c.self.inside.holders c.add.new.self c.self.inside.subs c.self.inside.subs c.self.inside.reverse c.change_reverse.new.reverse e
+    c.first_day_after-self-inside.result c.self.inside.holdings c.add-in-AddHolder.new.self kept reached c.first_day_after-self-inside.ensures
     (sym (pool_unpainted e.request e.cover e.card c.self.inside.pieces.partition bare ∙ ap (λ (q : Request). reshaped q c.self.inside.pieces.partition) c.in-AddHolder.is)) refl (c.add.ensures.holders ∙ ap (λ (q : Request). holders_after q c.e.inside.day c.self.inside.holders.holders) (sym c.in-AddHolder.is)) c.add.ensures.room
     (sym (ap (λ (q : Request). subs_after q c.e.inside.day c.self.inside.holders.holders c.self.inside.subs.ranges) c.in-AddHolder.is)) refl
+    c.change_reverse.ensures.reverses c.change_reverse.ensures.room
     (unchanged_holdings r e c.self.inside.holdings c.add-in-AddHolder.new.self kept.holdings
     (λ holder space. c.next_entries_change_holdings.ensures.same_held r e holder space whole next bare)
     (λ holder space. c.next_entries_change_holdings.ensures.same_allocated r e holder space whole next bare)
@@ -67,12 +81,12 @@ invariant_of-self-in-EditHolder c =
     let kept = c.self.invariant in
     let whole : IsWholeRegister r = c.reached_registers_are_whole.ensures r kept.reached in
     let reached : IsReached (after_entry r e) = c.entries_reach_registers.ensures.next r e kept.reached next in
-    let kind = ap (λ (x : PlainEntry). asks_for_no_reverse x.request) c.e.view_is ∙ c.requires.kind in
     let bare : e.card ≡ None = bare_card r e (EditHolder c.in-EditHolder.holder) (c.next_entries_have_covers_and_cards.ensures.card r e next) c.in-EditHolder.is refl in
-    kept_by c.self.inside.rooms c.self.inside.entries c.self.inside.first_day c.self.inside.last_day c.self.inside.pieces c.self.inside.pieces c.self.inside.holders c.edit.new.holders c.self.inside.subs c.self.inside.subs e
-    c.first_day_after-self-inside.result c.self.inside.holdings c.self.inside.holdings kept reached kind c.first_day_after-self-inside.ensures
+    kept_by c.self.inside.rooms c.self.inside.entries c.self.inside.first_day c.self.inside.last_day c.self.inside.pieces c.self.inside.pieces c.self.inside.holders c.edit.new.holders c.self.inside.subs c.self.inside.subs c.self.inside.reverse c.change_reverse.new.reverse e
+    c.first_day_after-self-inside.result c.self.inside.holdings c.self.inside.holdings kept reached c.first_day_after-self-inside.ensures
     (sym (pool_unpainted e.request e.cover e.card c.self.inside.pieces.partition bare ∙ ap (λ (q : Request). reshaped q c.self.inside.pieces.partition) c.in-EditHolder.is)) refl (c.edit.ensures.holders ∙ ap (λ (q : Request). holders_after q c.e.inside.day c.self.inside.holders.holders) (sym c.in-EditHolder.is)) c.edit.ensures.room
     (sym (ap (λ (q : Request). subs_after q c.e.inside.day c.self.inside.holders.holders c.self.inside.subs.ranges) c.in-EditHolder.is)) refl
+    c.change_reverse.ensures.reverses c.change_reverse.ensures.room
     (unchanged_holdings r e c.self.inside.holdings c.self.inside.holdings kept.holdings
     (λ holder space. c.next_entries_change_holdings.ensures.same_held r e holder space whole next bare)
     (λ holder space. c.next_entries_change_holdings.ensures.same_allocated r e holder space whole next bare)
@@ -109,12 +123,12 @@ invariant_of-self-in-Split c =
     let kept = c.self.invariant in
     let whole : IsWholeRegister r = c.reached_registers_are_whole.ensures r kept.reached in
     let reached : IsReached (after_entry r e) = c.entries_reach_registers.ensures.next r e kept.reached next in
-    let kind = ap (λ (x : PlainEntry). asks_for_no_reverse x.request) c.e.view_is ∙ c.requires.kind in
     let bare : e.card ≡ None = bare_card r e (Split c.in-Split.at) (c.next_entries_have_covers_and_cards.ensures.card r e next) c.in-Split.is refl in
-    kept_by c.self.inside.rooms c.self.inside.entries c.self.inside.first_day c.self.inside.last_day c.self.inside.pieces c.split.new.self c.self.inside.holders c.self.inside.holders c.self.inside.subs c.self.inside.subs e
-    c.first_day_after-self-inside.result c.self.inside.holdings c.self.inside.holdings kept reached kind c.first_day_after-self-inside.ensures
+    kept_by c.self.inside.rooms c.self.inside.entries c.self.inside.first_day c.self.inside.last_day c.self.inside.pieces c.split.new.self c.self.inside.holders c.self.inside.holders c.self.inside.subs c.self.inside.subs c.self.inside.reverse c.change_reverse.new.reverse e
+    c.first_day_after-self-inside.result c.self.inside.holdings c.self.inside.holdings kept reached c.first_day_after-self-inside.ensures
     (c.split.ensures.pieces ∙ sym (pool_unpainted e.request e.cover e.card c.self.inside.pieces.partition bare ∙ ap (λ (q : Request). reshaped q c.self.inside.pieces.partition) c.in-Split.is)) c.split.ensures.room (ap (λ (q : Request). holders_after q c.e.inside.day c.self.inside.holders.holders) (sym c.in-Split.is)) refl
     (sym (ap (λ (q : Request). subs_after q c.e.inside.day c.self.inside.holders.holders c.self.inside.subs.ranges) c.in-Split.is)) refl
+    c.change_reverse.ensures.reverses c.change_reverse.ensures.room
     (unchanged_holdings r e c.self.inside.holdings c.self.inside.holdings kept.holdings
     (λ holder space. c.next_entries_change_holdings.ensures.same_held r e holder space whole next bare)
     (λ holder space. c.next_entries_change_holdings.ensures.same_allocated r e holder space whole next bare)
@@ -138,12 +152,12 @@ invariant_of-self-in-Join c =
     let kept = c.self.invariant in
     let whole : IsWholeRegister r = c.reached_registers_are_whole.ensures r kept.reached in
     let reached : IsReached (after_entry r e) = c.entries_reach_registers.ensures.next r e kept.reached next in
-    let kind = ap (λ (x : PlainEntry). asks_for_no_reverse x.request) c.e.view_is ∙ c.requires.kind in
     let bare : e.card ≡ None = bare_card r e (Join c.in-Join.at) (c.next_entries_have_covers_and_cards.ensures.card r e next) c.in-Join.is refl in
-    kept_by c.self.inside.rooms c.self.inside.entries c.self.inside.first_day c.self.inside.last_day c.self.inside.pieces c.join.new.self c.self.inside.holders c.self.inside.holders c.self.inside.subs c.self.inside.subs e
-    c.first_day_after-self-inside.result c.self.inside.holdings c.self.inside.holdings kept reached kind c.first_day_after-self-inside.ensures
+    kept_by c.self.inside.rooms c.self.inside.entries c.self.inside.first_day c.self.inside.last_day c.self.inside.pieces c.join.new.self c.self.inside.holders c.self.inside.holders c.self.inside.subs c.self.inside.subs c.self.inside.reverse c.change_reverse.new.reverse e
+    c.first_day_after-self-inside.result c.self.inside.holdings c.self.inside.holdings kept reached c.first_day_after-self-inside.ensures
     (c.join.ensures.pieces ∙ sym (pool_unpainted e.request e.cover e.card c.self.inside.pieces.partition bare ∙ ap (λ (q : Request). reshaped q c.self.inside.pieces.partition) c.in-Join.is)) c.join.ensures.room (ap (λ (q : Request). holders_after q c.e.inside.day c.self.inside.holders.holders) (sym c.in-Join.is)) refl
     (sym (ap (λ (q : Request). subs_after q c.e.inside.day c.self.inside.holders.holders c.self.inside.subs.ranges) c.in-Join.is)) refl
+    c.change_reverse.ensures.reverses c.change_reverse.ensures.room
     (unchanged_holdings r e c.self.inside.holdings c.self.inside.holdings kept.holdings
     (λ holder space. c.next_entries_change_holdings.ensures.same_held r e holder space whole next bare)
     (λ holder space. c.next_entries_change_holdings.ensures.same_allocated r e holder space whole next bare)
@@ -234,15 +248,15 @@ invariant_of-self-in-Some-cover c =
     let kept = c.self.invariant in
     let whole : IsWholeRegister r = c.reached_registers_are_whole.ensures r kept.reached in
     let reached : IsReached (after_entry r e) = c.entries_reach_registers.ensures.next r e kept.reached next in
-    let kind = ap (λ (x : PlainEntry). asks_for_no_reverse x.request) c.e.view_is ∙ c.requires.kind in
     let range = c.in-Some-cover.range in
     let card : Card = c.in-Some.card in
     let change = c.next_entries_change_holdings.ensures in
     let alone = c.next_entries_can_be_painted.ensures.alone r e card whole next c.in-Some.is in
-    kept_by c.self.inside.rooms c.self.inside.entries c.self.inside.first_day c.self.inside.last_day c.self.inside.pieces c.lay.new.self c.self.inside.holders c.self.inside.holders c.self.inside.subs c.self.inside.subs e
-    c.first_day_after-self-inside.result c.self.inside.holdings c.exchange.new.holdings kept reached kind c.first_day_after-self-inside.ensures
+    kept_by c.self.inside.rooms c.self.inside.entries c.self.inside.first_day c.self.inside.last_day c.self.inside.pieces c.lay.new.self c.self.inside.holders c.self.inside.holders c.self.inside.subs c.self.inside.subs c.self.inside.reverse c.change_reverse.new.reverse e
+    c.first_day_after-self-inside.result c.self.inside.holdings c.exchange.new.holdings kept reached c.first_day_after-self-inside.ensures
     (c.lay.ensures.pieces ∙ sym (pool_painted e.request e.cover e.card c.self.inside.pieces.partition range card c.in-Some-cover.is c.in-Some.is alone)) c.lay.ensures.room (same_holders e.request e.day c.self.inside.holders.holders c.in_default.not-AddHolder c.in_default.not-EditHolder) refl
     (same_subs e.request e.day c.self.inside.holders.holders c.self.inside.subs.ranges c.in_default.not-SubAssign c.in_default.not-SubReturn) refl
+    c.change_reverse.ensures.reverses c.change_reverse.ensures.room
     (exchanged_holdings r e c.self.inside.holdings c.exchange.new.holdings range c.card_over-former.result card c.numbers_inside-used.result kept.holdings c.card_over-former.ensures c.numbers_inside-used.ensures
     (λ holder space. change.held r e range card holder space whole next c.in-Some-cover.is c.in-Some.is)
     (λ holder space. change.allocated r e range card holder space whole next c.in-Some-cover.is c.in-Some.is)
@@ -257,13 +271,13 @@ returns-in-Some-cover c =
     let next : IsNextEntry r e = next_at r c.args.self.now.register e c.args.e.now (ap (λ (b : PlainBoard). b.register) c.self.view_is) c.e.view_is c.requires.next in
     let kept = c.self.invariant in
     let whole : IsWholeRegister r = c.reached_registers_are_whole.ensures r kept.reached in
-    let kind = ap (λ (x : PlainEntry). asks_for_no_reverse x.request) c.e.view_is ∙ c.requires.kind in
     let alone = c.next_entries_can_be_painted.ensures.alone r e c.in-Some.card whole next c.in-Some.is in
     register_is c.self.inside.rooms c.self.inside.entries c.self.inside.first_day c.self.inside.last_day c.self.inside.pieces c.lay.new.self
-    c.self.inside.holders c.self.inside.holders c.self.inside.subs c.self.inside.subs e c.first_day_after-self-inside.result kind c.first_day_after-self-inside.ensures
+    c.self.inside.holders c.self.inside.holders c.self.inside.subs c.self.inside.subs c.self.inside.reverse c.change_reverse.new.reverse e
+    c.first_day_after-self-inside.result c.first_day_after-self-inside.ensures
     (c.lay.ensures.pieces ∙ sym (pool_painted e.request e.cover e.card c.self.inside.pieces.partition c.in-Some-cover.range c.in-Some.card c.in-Some-cover.is c.in-Some.is alone))
     (same_holders e.request e.day c.self.inside.holders.holders c.in_default.not-AddHolder c.in_default.not-EditHolder)
-    (same_subs e.request e.day c.self.inside.holders.holders c.self.inside.subs.ranges c.in_default.not-SubAssign c.in_default.not-SubReturn)
+    (same_subs e.request e.day c.self.inside.holders.holders c.self.inside.subs.ranges c.in_default.not-SubAssign c.in_default.not-SubReturn) c.change_reverse.ensures.reverses
     ∙ ap (λ (x : Register). after_entry x e) (ap (λ (b : PlainBoard). b.register) c.self.view_is) ∙ ap (λ (x : PlainEntry). after_entry c.args.self.now.register x) c.e.view_is
 
 pub invariant_of-self-in_default-card : goal.invariant_of-self-in_default-card
@@ -274,13 +288,13 @@ invariant_of-self-in_default-card c =
     let kept = c.self.invariant in
     let whole : IsWholeRegister r = c.reached_registers_are_whole.ensures r kept.reached in
     let reached : IsReached (after_entry r e) = c.entries_reach_registers.ensures.next r e kept.reached next in
-    let kind = ap (λ (x : PlainEntry). asks_for_no_reverse x.request) c.e.view_is ∙ c.requires.kind in
     let bare : e.card ≡ None = c.in_default-card.is in
-    kept_by c.self.inside.rooms c.self.inside.entries c.self.inside.first_day c.self.inside.last_day c.self.inside.pieces c.self.inside.pieces c.self.inside.holders c.self.inside.holders c.self.inside.subs c.self.inside.subs e
-    c.first_day_after-self-inside.result c.self.inside.holdings c.self.inside.holdings kept reached kind c.first_day_after-self-inside.ensures
+    kept_by c.self.inside.rooms c.self.inside.entries c.self.inside.first_day c.self.inside.last_day c.self.inside.pieces c.self.inside.pieces c.self.inside.holders c.self.inside.holders c.self.inside.subs c.self.inside.subs c.self.inside.reverse c.change_reverse.new.reverse e
+    c.first_day_after-self-inside.result c.self.inside.holdings c.self.inside.holdings kept reached c.first_day_after-self-inside.ensures
     (sym (pool_unpainted e.request e.cover e.card c.self.inside.pieces.partition bare ∙ unshaped e.request c.self.inside.pieces.partition c.in_default.not-Split c.in_default.not-Join))
     refl (same_holders e.request e.day c.self.inside.holders.holders c.in_default.not-AddHolder c.in_default.not-EditHolder) refl
     (same_subs e.request e.day c.self.inside.holders.holders c.self.inside.subs.ranges c.in_default.not-SubAssign c.in_default.not-SubReturn) refl
+    c.change_reverse.ensures.reverses c.change_reverse.ensures.room
     (unchanged_holdings r e c.self.inside.holdings c.self.inside.holdings kept.holdings
     (λ holder space. c.next_entries_change_holdings.ensures.same_held r e holder space whole next bare)
     (λ holder space. c.next_entries_change_holdings.ensures.same_allocated r e holder space whole next bare)
@@ -366,13 +380,13 @@ invariant_of-self-in-SubAssign c =
     let kept = c.self.invariant in
     let whole : IsWholeRegister r = c.reached_registers_are_whole.ensures r kept.reached in
     let reached : IsReached (after_entry r e) = c.entries_reach_registers.ensures.next r e kept.reached next in
-    let kind = ap (λ (x : PlainEntry). asks_for_no_reverse x.request) c.e.view_is ∙ c.requires.kind in
     let bare : e.card ≡ None = bare_card r e (SubAssign c.in-SubAssign.range c.in-SubAssign.handle) (c.next_entries_have_covers_and_cards.ensures.card r e next) c.in-SubAssign.is refl in
-    kept_by c.self.inside.rooms c.self.inside.entries c.self.inside.first_day c.self.inside.last_day c.self.inside.pieces c.self.inside.pieces c.self.inside.holders c.self.inside.holders c.self.inside.subs c.add_sub.new.subs e
-    c.first_day_after-self-inside.result c.self.inside.holdings c.use_more.new.holdings kept reached kind c.first_day_after-self-inside.ensures
+    kept_by c.self.inside.rooms c.self.inside.entries c.self.inside.first_day c.self.inside.last_day c.self.inside.pieces c.self.inside.pieces c.self.inside.holders c.self.inside.holders c.self.inside.subs c.add_sub.new.subs c.self.inside.reverse c.change_reverse.new.reverse e
+    c.first_day_after-self-inside.result c.self.inside.holdings c.use_more.new.holdings kept reached c.first_day_after-self-inside.ensures
     (sym (pool_unpainted e.request e.cover e.card c.self.inside.pieces.partition bare ∙ ap (λ (q : Request). reshaped q c.self.inside.pieces.partition) c.in-SubAssign.is)) refl
     (ap (λ (q : Request). holders_after q c.e.inside.day c.self.inside.holders.holders) (sym c.in-SubAssign.is)) refl
     (c.add_sub.ensures.subs ∙ sym (ap (λ (q : Request). subs_after q c.e.inside.day c.self.inside.holders.holders c.self.inside.subs.ranges) c.in-SubAssign.is)) c.add_sub.ensures.room
+    c.change_reverse.ensures.reverses c.change_reverse.ensures.room
     (used_holdings r e c.self.inside.holdings c.use_more.new.holdings kept.holdings
     (λ holder space. c.next_entries_change_holdings.ensures.same_held r e holder space whole next bare)
     (λ holder space. c.next_entries_change_holdings.ensures.same_allocated r e holder space whole next bare)
@@ -413,13 +427,13 @@ invariant_of-self-in-SubReturn c =
     let kept = c.self.invariant in
     let whole : IsWholeRegister r = c.reached_registers_are_whole.ensures r kept.reached in
     let reached : IsReached (after_entry r e) = c.entries_reach_registers.ensures.next r e kept.reached next in
-    let kind = ap (λ (x : PlainEntry). asks_for_no_reverse x.request) c.e.view_is ∙ c.requires.kind in
     let bare : e.card ≡ None = bare_card r e (SubReturn c.in-SubReturn.range) (c.next_entries_have_covers_and_cards.ensures.card r e next) c.in-SubReturn.is refl in
-    kept_by c.self.inside.rooms c.self.inside.entries c.self.inside.first_day c.self.inside.last_day c.self.inside.pieces c.self.inside.pieces c.self.inside.holders c.self.inside.holders c.self.inside.subs c.take_out.new.self e
-    c.first_day_after-self-inside.result c.self.inside.holdings c.use_less.new.holdings kept reached kind c.first_day_after-self-inside.ensures
+    kept_by c.self.inside.rooms c.self.inside.entries c.self.inside.first_day c.self.inside.last_day c.self.inside.pieces c.self.inside.pieces c.self.inside.holders c.self.inside.holders c.self.inside.subs c.take_out.new.self c.self.inside.reverse c.change_reverse.new.reverse e
+    c.first_day_after-self-inside.result c.self.inside.holdings c.use_less.new.holdings kept reached c.first_day_after-self-inside.ensures
     (sym (pool_unpainted e.request e.cover e.card c.self.inside.pieces.partition bare ∙ ap (λ (q : Request). reshaped q c.self.inside.pieces.partition) c.in-SubReturn.is)) refl
     (ap (λ (q : Request). holders_after q c.e.inside.day c.self.inside.holders.holders) (sym c.in-SubReturn.is)) refl
     (c.take_out.ensures.ranges ∙ sym (ap (λ (q : Request). subs_after q c.e.inside.day c.self.inside.holders.holders c.self.inside.subs.ranges) c.in-SubReturn.is)) c.take_out.ensures.room
+    c.change_reverse.ensures.reverses c.change_reverse.ensures.room
     (used_holdings r e c.self.inside.holdings c.use_less.new.holdings kept.holdings
     (λ holder space. c.next_entries_change_holdings.ensures.same_held r e holder space whole next bare)
     (λ holder space. c.next_entries_change_holdings.ensures.same_allocated r e holder space whole next bare)
