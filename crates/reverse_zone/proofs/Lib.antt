@@ -4,3 +4,4 @@ pub mod Members
 pub mod Parts
 pub mod Appended
 pub mod ZoneLines
+pub mod Names
