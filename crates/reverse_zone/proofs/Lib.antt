@@ -5,3 +5,4 @@ pub mod Parts
 pub mod Appended
 pub mod ZoneLines
 pub mod Names
+pub mod Zoned

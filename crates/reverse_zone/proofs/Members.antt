@@ -106,7 +106,7 @@ rises_of_rising bs each pairs =
     rises_from 0 bs (λ k d lt. each (slice_index_or bs k d) (at_place bs k d lt)) pairs (λ k d lt. omega arith)
 
 -- the first of a rising list comes again in no later place
-not_again : (low : ℕ) (b : PlainRange) (bs : List PlainRange) → RisesAbove low (b ∷ bs) → Elem b bs → ⊥
+pub not_again : (low : ℕ) (b : PlainRange) (bs : List PlainRange) → RisesAbove low (b ∷ bs) → Elem b bs → ⊥
 not_again low b bs rises h = let again = (above_low (b.last + 1) b bs rises.2 h).0 in let within = rises.1 in absurd (omega arith)
 
 -- rising lists of the same ranges are the same

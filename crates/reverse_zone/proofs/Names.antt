@@ -234,7 +234,7 @@ pub record IsLabelled (space : Space) (bits n place : ℕ) (c : PlainRange) : Ty
 size_labelled : (space : Space) (bits n place : ℕ) (c : PlainRange) (h : IsLabelled space bits n place c) → size_of c ≡ 2 ^ (place + bits * h.digits)
 size_labelled space bits n place c h = let pos = pow_pos (place + bits * h.digits) in let ends = h.ends in omega arith
 
-range_same : (c d : PlainRange) → c.space ≡ d.space → c.first ≡ d.first → c.last ≡ d.last → c ≡ d
+pub range_same : (c d : PlainRange) → c.space ≡ d.space → c.first ≡ d.first → c.last ≡ d.last → c ≡ d
 range_same c d s f l =
     ap (λ x. made x c.first c.last) s ∙ ap (λ x. made d.space x c.last) f ∙ ap (λ x. made d.space d.first x) l
   where
@@ -252,7 +252,7 @@ are_labels space first (p ∷ ps) = (mod_below (first / 2 ^ p) (2 ^ label_bits s
 multiple_whole : (f s : ℕ) → f % s ≡ 0 → f / s * s ≡ f
 multiple_whole f s e = let parts = div-add-mod' f s in omega arith
 
-quotient_is : (f q s : ℕ) → 0 < s → q * s ≤ f → f ≤ q * s + (s - 1) → f / s ≡ q
+pub quotient_is : (f q s : ℕ) → 0 < s → q * s ≤ f → f ≤ q * s + (s - 1) → f / s ≡ q
 quotient_is f q s pos low high =
     let parts : f / s * s + f % s ≡ f = div-add-mod' f s in
     let rest : f % s < s = mod_below f s pos in
@@ -306,7 +306,7 @@ digits4 len h = (grind (arith, nat_tests), grind (arith, nat_tests))
 digits6 : (len : ℕ) → is_cut_length Ipv6 len ≡ true → ((64 - len) / 4 ≤ 13) × (64 + 4 * ((64 - len) / 4) ≡ 128 - len)
 digits6 len h = (grind (arith, nat_tests), grind (arith, nat_tests))
 
-labelled4 : (r c : PlainRange) → IsReverseCut r c → c.space ≡ Ipv4 → IsLabelled Ipv4 8 2 8 c
+pub labelled4 : (r c : PlainRange) → IsReverseCut r c → c.space ≡ Ipv4 → IsLabelled Ipv4 8 2 8 c
 labelled4 r c h e =
     let same : r.space ≡ Ipv4 = sym (ap (λ (x : PlainRange). x.space) h.is_cut.is_block) ∙ e in
     let at = digits4 h.length (subst (λ s. is_cut_length s h.length ≡ true) same h.is_cut.cut_length) in
@@ -319,7 +319,7 @@ labelled4 r c h e =
           (subst (λ s. c.last ≡ c.first + (2 ^ (width_of s - h.length) - 1)) same (ap (λ (x : PlainRange). x.last) h.is_cut.is_block));
     }
 
-labelled6 : (r c : PlainRange) → IsReverseCut r c → c.space ≡ Ipv6 → IsLabelled Ipv6 4 13 64 c
+pub labelled6 : (r c : PlainRange) → IsReverseCut r c → c.space ≡ Ipv6 → IsLabelled Ipv6 4 13 64 c
 labelled6 r c h e =
     let same : r.space ≡ Ipv6 = sym (ap (λ (x : PlainRange). x.space) h.is_cut.is_block) ∙ e in
     let at = digits6 h.length (subst (λ s. is_cut_length s h.length ≡ true) same h.is_cut.cut_length) in

@@ -54,7 +54,7 @@ multiple_of_lesser n j k le e =
     ap (λ m. m % 2 ^ j) (sym product) ∙ mul-mod_left (count * 2 ^ (k - j)) (2 ^ j)
 
 -- a block that has a number of another one, and is no wider, lies in it
-nested : (j k w f x : ℕ) → j ≤ k → w % 2 ^ j ≡ 0 → f % 2 ^ k ≡ 0 → f ≤ x → x ≤ f + (2 ^ k - 1) → w ≤ x → x ≤ w + (2 ^ j - 1)
+pub nested : (j k w f x : ℕ) → j ≤ k → w % 2 ^ j ≡ 0 → f % 2 ^ k ≡ 0 → f ≤ x → x ≤ f + (2 ^ k - 1) → w ≤ x → x ≤ w + (2 ^ j - 1)
     → (f ≤ w) × (w + (2 ^ j - 1) ≤ f + (2 ^ k - 1))
 nested j k w f x le ew ef low high from until = (
   elim (cases_lt w f) [

@@ -4,6 +4,7 @@
 mod apex;
 mod append;
 mod labels;
+pub mod laws;
 mod lines;
 mod pooled;
 mod zone;
