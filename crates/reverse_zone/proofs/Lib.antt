@@ -1,3 +1,4 @@
+mod Rows
 pub mod Lengths
 pub mod Finding
 pub mod Members

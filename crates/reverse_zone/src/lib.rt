@@ -7,6 +7,8 @@ mod labels;
 pub mod laws;
 mod lines;
 mod pooled;
+#[cfg(test)]
+mod tests;
 mod zone;
 
 pub use apex::{Apex, read_apex};
