@@ -1,0 +1,9 @@
+mod Rows
+pub mod Lengths
+pub mod Finding
+pub mod Members
+pub mod Parts
+pub mod Appended
+pub mod ZoneLines
+pub mod Names
+pub mod Zoned

@@ -1,0 +1,4 @@
+pub mod Apex
+pub mod Zone
+pub mod Part
+pub mod Delegated

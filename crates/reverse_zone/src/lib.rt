@@ -1,0 +1,16 @@
+//! The reverse zones of the register, as the master files of the domain name system have them.
+#![tactic(auto)]
+
+mod apex;
+mod append;
+mod labels;
+pub mod laws;
+mod lines;
+mod pooled;
+#[cfg(test)]
+mod tests;
+mod zone;
+
+pub use apex::{Apex, read_apex};
+pub use pooled::in_pool;
+pub use zone::write_zone;
