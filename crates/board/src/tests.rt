@@ -1,11 +1,14 @@
 //! Registers that entries build one by one, each of them only where it may come next. The ranges are of 192.0.2.0/24
 //! (RFC 5737), by their last octets.
+ghost use Rattle.reg_entry.specs.Rooms.{AreRooms};
+
 use crate::{Board, Found};
 use num_range::{Number, Range, Space};
 use reg_entry::{
     Card, Cc, Delegation, Entry, Handle, Holder, Host, Kind, Name, Refusal, Request, Rooms,
     Servers, Status, Text,
 };
+use std::alloc::{AllocError, Global};
 use std::test::Fail;
 
 /// 2024-03-01, a day a year before it, and the day when a quarantine of 30 days ends.
@@ -31,6 +34,15 @@ const ROOMS: Rooms = Rooms {
     subs: 1,
     reverse: 1,
     entries: 40,
+    window: 1,
+};
+
+const FEW: Rooms = Rooms {
+    pieces: 2,
+    holders: 2,
+    subs: 1,
+    reverse: 1,
+    entries: 6,
     window: 1,
 };
 
@@ -425,36 +437,10 @@ fn piece_at(board: &Board, octet: u128) -> Option<(u128, u128, Status)> {
     ))
 }
 
-// A test that has a board does little else, since each of its ends drops the board.
-
 fn has_taken_blocks(board: &Board) -> bool {
     (board.first_day(), board.last_day(), board.entries()) == (DAY, DUE, 9)
         && (board.held(0, Space::Ipv4), board.allocated(0, Space::Ipv4)) == (192, 192)
         && (board.held(0, Space::Asn), board.held(1, Space::Ipv4)) == (0, 0)
-}
-
-#[test]
-fn blocks_are_taken_returned_and_released(rt: HostRuntime) -> Result<(), Fail> {
-    let mut board = Board::with_room(rt.alloc(), ROOMS)?;
-    assert_eq!(rt; wrong_after(&mut board, &blocks()), None);
-    assert!(rt; has_taken_blocks(&board));
-    Ok(())
-}
-
-#[test]
-fn what_is_released_joins_its_neighbours(rt: HostRuntime) -> Result<(), Fail> {
-    let mut board = Board::with_room(rt.alloc(), ROOMS)?;
-    assert_eq!(rt; wrong_after(&mut board, &releases()), None);
-    assert_eq!(rt; piece_at(&board, 64), Some((0, 255, Status::Available)));
-    Ok(())
-}
-
-#[test]
-fn all_is_delegated_at_once(rt: HostRuntime) -> Result<(), Fail> {
-    let mut board = Board::with_room(rt.alloc(), ROOMS)?;
-    assert_eq!(rt; wrong_after(&mut board, &all_at_once()), None);
-    assert_eq!(rt; piece_at(&board, 255), Some((0, 255, Status::Allocated)));
-    Ok(())
 }
 
 /// A split and a join leave each card as it is.
@@ -465,14 +451,6 @@ fn is_split_and_joined(board: &mut Board) -> bool {
         && piece_at(board, 64) == Some((0, 127, Status::Allocated))
 }
 
-#[test]
-fn pieces_are_split_and_joined(rt: HostRuntime) -> Result<(), Fail> {
-    let mut board = Board::with_room(rt.alloc(), ROOMS)?;
-    assert_eq!(rt; wrong_after(&mut board, &splits()), None);
-    assert!(rt; is_split_and_joined(&mut board));
-    Ok(())
-}
-
 /// The hold time is over on its day, and then the numbers go back.
 fn goes_back(board: &mut Board) -> bool {
     let back = transferred(HELD, b"ORG-B", b"ORG-A", 0, HELD);
@@ -481,32 +459,10 @@ fn goes_back(board: &mut Board) -> bool {
         && (board.held(0, Space::Ipv4), board.held(1, Space::Ipv4)) == (64, 0)
 }
 
-#[test]
-fn pieces_are_transferred(rt: HostRuntime) -> Result<(), Fail> {
-    let mut board = Board::with_room(rt.alloc(), ROOMS)?;
-    assert_eq!(rt; wrong_after(&mut board, &transfers()), None);
-    assert!(rt; goes_back(&mut board));
-    Ok(())
-}
-
-fn is_full(board: &Board, rooms: &Rooms) -> bool {
+fn is_full(board: &Board) -> bool {
     Handle::read(b"ORG-A").and_then(|handle| board.holders().by_handle(&handle)) == Some(0)
         && board.entries() == 6
-        && board.rooms() == *rooms
-}
-
-#[test]
-fn rooms_are_kept(rt: HostRuntime) -> Result<(), Fail> {
-    let rooms = Rooms {
-        pieces: 2,
-        holders: 2,
-        entries: 6,
-        ..ROOMS
-    };
-    let mut board = Board::with_room(rt.alloc(), rooms)?;
-    assert_eq!(rt; wrong_after(&mut board, &filling()), None);
-    assert!(rt; is_full(&board, &rooms));
-    Ok(())
+        && board.rooms() == FEW
 }
 
 /// The first and the last octet of a range.
@@ -539,14 +495,6 @@ fn has_subs(board: &mut Board) -> bool {
         && (board.used(1, Space::Ipv4), board.subs().len()) == (0, 0)
         && taken(board, &sub_assigned(0, 63)) == Some(true)
         && found(board, 0, 63) == Some(((0, 63), Some((0, 63))))
-}
-
-#[test]
-fn subs_are_assigned_found_and_taken_back(rt: HostRuntime) -> Result<(), Fail> {
-    let mut board = Board::with_room(rt.alloc(), ROOMS)?;
-    assert_eq!(rt; wrong_after(&mut board, &subs()), None);
-    assert!(rt; has_subs(&mut board));
-    Ok(())
 }
 
 /// Why a step that paints nothing is refused, or nothing.
@@ -601,9 +549,115 @@ fn keeps_reverses(board: &mut Board) -> Option<bool> {
     Some(set && refuses_by_reverse(board)? && refuses_numbers(board)? && reverses_go(board))
 }
 
+fn blocks_go(board: &mut Board) -> bool {
+    wrong_after(board, &blocks()).is_none() && has_taken_blocks(board)
+}
+
+fn releases_go(board: &mut Board) -> bool {
+    wrong_after(board, &releases()).is_none()
+        && piece_at(board, 64) == Some((0, 255, Status::Available))
+}
+
+fn all_goes_at_once(board: &mut Board) -> bool {
+    wrong_after(board, &all_at_once()).is_none()
+        && piece_at(board, 255) == Some((0, 255, Status::Allocated))
+}
+
+fn splits_go(board: &mut Board) -> bool {
+    wrong_after(board, &splits()).is_none() && is_split_and_joined(board)
+}
+
+fn transfers_go(board: &mut Board) -> bool {
+    wrong_after(board, &transfers()).is_none() && goes_back(board)
+}
+
+fn filling_goes(board: &mut Board) -> bool {
+    wrong_after(board, &filling()).is_none() && is_full(board)
+}
+
+fn subs_go(board: &mut Board) -> bool {
+    wrong_after(board, &subs()).is_none() && has_subs(board)
+}
+
+/// What is tried on a register of its own.
+#[derive(Clone, Copy)]
+enum Trial {
+    Blocks,
+    Releases,
+    AllAtOnce,
+    Splits,
+    Transfers,
+    Filling,
+    Subs,
+    Reverses,
+}
+
+fn holds_in(board: &mut Board, trial: Trial) -> bool {
+    match trial {
+        Trial::Blocks => blocks_go(board),
+        Trial::Releases => releases_go(board),
+        Trial::AllAtOnce => all_goes_at_once(board),
+        Trial::Splits => splits_go(board),
+        Trial::Transfers => transfers_go(board),
+        Trial::Filling => filling_goes(board),
+        Trial::Subs => subs_go(board),
+        Trial::Reverses => keeps_reverses(board) == Some(true),
+    }
+}
+
+/// Whether it holds in a register with these rooms. No other function of the tests owns a board, and this one has one end
+/// behind it, since each end proves again that all of the board is dropped.
+fn holds(alloc: Global, rooms: Rooms, trial: Trial) -> Result<bool, AllocError>
+    requires { AreRooms rooms }
+{
+    let mut board = Board::with_room(alloc, rooms)?;
+    Ok(holds_in(&mut board, trial))
+}
+
+#[test]
+fn blocks_are_taken_returned_and_released(rt: HostRuntime) -> Result<(), Fail> {
+    assert!(rt; holds(rt.alloc(), ROOMS, Trial::Blocks)?);
+    Ok(())
+}
+
+#[test]
+fn what_is_released_joins_its_neighbours(rt: HostRuntime) -> Result<(), Fail> {
+    assert!(rt; holds(rt.alloc(), ROOMS, Trial::Releases)?);
+    Ok(())
+}
+
+#[test]
+fn all_is_delegated_at_once(rt: HostRuntime) -> Result<(), Fail> {
+    assert!(rt; holds(rt.alloc(), ROOMS, Trial::AllAtOnce)?);
+    Ok(())
+}
+
+#[test]
+fn pieces_are_split_and_joined(rt: HostRuntime) -> Result<(), Fail> {
+    assert!(rt; holds(rt.alloc(), ROOMS, Trial::Splits)?);
+    Ok(())
+}
+
+#[test]
+fn pieces_are_transferred(rt: HostRuntime) -> Result<(), Fail> {
+    assert!(rt; holds(rt.alloc(), ROOMS, Trial::Transfers)?);
+    Ok(())
+}
+
+#[test]
+fn rooms_are_kept(rt: HostRuntime) -> Result<(), Fail> {
+    assert!(rt; holds(rt.alloc(), FEW, Trial::Filling)?);
+    Ok(())
+}
+
+#[test]
+fn subs_are_assigned_found_and_taken_back(rt: HostRuntime) -> Result<(), Fail> {
+    assert!(rt; holds(rt.alloc(), ROOMS, Trial::Subs)?);
+    Ok(())
+}
+
 #[test]
 fn reverse_entries_are_set_and_taken_out(rt: HostRuntime) -> Result<(), Fail> {
-    let mut board = Board::with_room(rt.alloc(), ROOMS)?;
-    assert_eq!(rt; keeps_reverses(&mut board), Some(true));
+    assert!(rt; holds(rt.alloc(), ROOMS, Trial::Reverses)?);
     Ok(())
 }

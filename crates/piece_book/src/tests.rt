@@ -1,4 +1,4 @@
-ghost use Rattle.std.specs.Prelude.{◌≡◌, ◌^◌, ◌<◌, IsTrue, find};
+ghost use Rattle.std.specs.Prelude.{◌≡◌, ◌^◌, ◌<◌, ◌≤◌, IsTrue, find};
 ghost use Rattle.reg_entry.specs.Card.{is_available};
 ghost use Rattle.reg_entry.specs.Partition.{pieces_in};
 ghost use Rattle.reg_entry.specs.Pieces.{IsCard, IsPoolRange};
@@ -6,8 +6,10 @@ ghost use Rattle.reg_entry.specs.Pieces.{IsCard, IsPoolRange};
 mod numbers;
 
 use crate::{PieceBook, Touched};
+use num_range::Space::{Asn, Ipv4, Ipv6};
 use num_range::{Number, Range, Space};
 use numbers::Numbers;
+use reg_entry::Status::{Allocated, Assigned, Available, Reserved};
 use reg_entry::{Card, Piece, Status};
 use std::alloc::{AllocError, Global};
 use std::test::Fail;
@@ -119,8 +121,7 @@ fn walked(alloc: Global, book: &PieceBook) -> Result<Vec<(u128, u128, Status)>, 
 /// came.
 type Laid = (Space, u128, u128, Status, Option<(u32, usize, usize)>);
 
-/// The first number of the first row that isn't as it says. A test that has a book does little else, since each of its ends
-/// drops the book.
+/// The first number of the first row that isn't as it says.
 fn first_wrong(book: &mut PieceBook, rows: &[Laid]) -> Option<u128> {
     for (space, first, last, status, wanted) in rows {
         let Some(range) = Range::new(*space, *first, *last) else {
@@ -146,68 +147,65 @@ fn is_full(book: &mut PieceBook) -> bool {
         && laid(book, &more, Status::Reserved).is_none()
 }
 
-#[test]
-fn pieces_of_three_spaces(rt: HostRuntime) -> Result<(), Fail> {
-    use Space::{Asn, Ipv4, Ipv6};
-    use Status::{Allocated, Assigned, Available, Reserved};
+const ROWS: [Laid; 18] = [
+    (Ipv4, 0xc000_0200, 0xc000_02ff, Available, Some((1, 0, 1))),
+    // The block behind it joins it, and one that only lies near doesn't.
+    (Ipv4, 0xc000_0300, 0xc000_03ff, Available, Some((1, 1, 1))),
+    (Ipv4, 0xc000_0401, 0xc000_0401, Available, Some((2, 0, 1))),
+    // A delegate inside cuts the piece on both sides, and one at its low end on one side.
+    (Ipv4, 0xc000_0240, 0xc000_027f, Allocated, Some((4, 1, 3))),
+    (Ipv4, 0xc000_0200, 0xc000_021f, Assigned, Some((5, 1, 2))),
+    // Over two pieces nothing is laid.
+    (Ipv4, 0xc000_0200, 0xc000_0220, Reserved, None),
+    // What comes back joins what is available on both sides.
+    (Ipv4, 0xc000_0240, 0xc000_027f, Available, Some((3, 3, 1))),
+    (Ipv4, 0xc000_0400, 0xc000_0400, Available, Some((2, 2, 1))),
+    (Ipv4, 0xffff_ffff, 0xffff_ffff, Available, Some((3, 0, 1))),
+    // Touching pieces that aren't both available stay two (RFC 5398).
+    (Asn, 64496, 64511, Reserved, Some((4, 0, 1))),
+    (Asn, 64512, 64512, Reserved, Some((5, 0, 1))),
+    (Asn, 64495, 64495, Available, Some((6, 0, 1))),
+    (Asn, 0xffff_ffff, 0xffff_ffff, Available, Some((7, 0, 1))),
+    (
+        Ipv6,
+        DOCUMENTATION6,
+        DOCUMENTATION6,
+        Available,
+        Some((8, 0, 1)),
+    ),
+    (Ipv6, LAST_64, LAST_UNICAST, Available, Some((9, 0, 1))),
+    (
+        Ipv6,
+        LAST_UNICAST,
+        LAST_UNICAST,
+        Allocated,
+        Some((10, 1, 2)),
+    ),
+    (Ipv6, PAST_UNICAST, PAST_UNICAST, Available, None),
+    // A piece that gets the card that it has is as it was.
+    (Asn, 64512, 64512, Reserved, Some((10, 0, 0))),
+];
 
-    let rows: [Laid; 18] = [
-        (Ipv4, 0xc000_0200, 0xc000_02ff, Available, Some((1, 0, 1))),
-        // The block behind it joins it, and one that only lies near doesn't.
-        (Ipv4, 0xc000_0300, 0xc000_03ff, Available, Some((1, 1, 1))),
-        (Ipv4, 0xc000_0401, 0xc000_0401, Available, Some((2, 0, 1))),
-        // A delegate inside cuts the piece on both sides, and one at its low end on one side.
-        (Ipv4, 0xc000_0240, 0xc000_027f, Allocated, Some((4, 1, 3))),
-        (Ipv4, 0xc000_0200, 0xc000_021f, Assigned, Some((5, 1, 2))),
-        // Over two pieces nothing is laid.
-        (Ipv4, 0xc000_0200, 0xc000_0220, Reserved, None),
-        // What comes back joins what is available on both sides.
-        (Ipv4, 0xc000_0240, 0xc000_027f, Available, Some((3, 3, 1))),
-        (Ipv4, 0xc000_0400, 0xc000_0400, Available, Some((2, 2, 1))),
-        (Ipv4, 0xffff_ffff, 0xffff_ffff, Available, Some((3, 0, 1))),
-        // Touching pieces that aren't both available stay two (RFC 5398).
-        (Asn, 64496, 64511, Reserved, Some((4, 0, 1))),
-        (Asn, 64512, 64512, Reserved, Some((5, 0, 1))),
-        (Asn, 64495, 64495, Available, Some((6, 0, 1))),
-        (Asn, 0xffff_ffff, 0xffff_ffff, Available, Some((7, 0, 1))),
-        (
-            Ipv6,
-            DOCUMENTATION6,
-            DOCUMENTATION6,
-            Available,
-            Some((8, 0, 1)),
-        ),
-        (Ipv6, LAST_64, LAST_UNICAST, Available, Some((9, 0, 1))),
-        (
-            Ipv6,
-            LAST_UNICAST,
-            LAST_UNICAST,
-            Allocated,
-            Some((10, 1, 2)),
-        ),
-        (Ipv6, PAST_UNICAST, PAST_UNICAST, Available, None),
-        // A piece that gets the card that it has is as it was.
-        (Asn, 64512, 64512, Reserved, Some((10, 0, 0))),
-    ];
+/// The pieces behind them.
+const PIECES: [(u128, u128, Status); 10] = [
+    (64495, 64495, Available),
+    (64496, 64511, Reserved),
+    (64512, 64512, Reserved),
+    (0xffff_ffff, 0xffff_ffff, Available),
+    (0xc000_0200, 0xc000_021f, Assigned),
+    (0xc000_0220, 0xc000_0401, Available),
+    (0xffff_ffff, 0xffff_ffff, Available),
+    (DOCUMENTATION6, DOCUMENTATION6, Available),
+    (LAST_64, BEFORE_LAST, Available),
+    (LAST_UNICAST, LAST_UNICAST, Allocated),
+];
 
-    let mut book = PieceBook::with_room(rt.alloc(), 10)?;
-    assert_eq!(rt; first_wrong(&mut book, &rows), None);
-    assert!(rt; is_full(&mut book));
-
-    let pieces = [
-        (64495, 64495, Available),
-        (64496, 64511, Reserved),
-        (64512, 64512, Reserved),
-        (0xffff_ffff, 0xffff_ffff, Available),
-        (0xc000_0200, 0xc000_021f, Assigned),
-        (0xc000_0220, 0xc000_0401, Available),
-        (0xffff_ffff, 0xffff_ffff, Available),
-        (DOCUMENTATION6, DOCUMENTATION6, Available),
-        (LAST_64, BEFORE_LAST, Available),
-        (LAST_UNICAST, LAST_UNICAST, Allocated),
-    ];
-    assert_eq!(rt; walked(rt.alloc(), &book)?.as_slice(), pieces.as_slice());
-    Ok(())
+/// Whether the book has room for ten pieces, and they are laid as the rows say and then walked.
+fn has_three_spaces(alloc: Global, book: &mut PieceBook) -> Result<bool, AllocError> {
+    if first_wrong(book, &ROWS).is_some() || !is_full(book) {
+        return Ok(false);
+    }
+    Ok(walked(alloc, book)?.as_slice() == PIECES.as_slice())
 }
 
 /// The ends of the piece that holds an IPv4 address.
@@ -237,13 +235,6 @@ fn finds_both_ends(book: &mut PieceBook) -> bool {
         && book.sum(Space::Ipv4, Status::Allocated) == 2
         && book.sum(Space::Ipv4, Status::Available) == top - 1
         && book.sum(Space::Asn, Status::Available) == 0
-}
-
-#[test]
-fn the_whole_of_ipv4(rt: HostRuntime) -> Result<(), Fail> {
-    let mut book = PieceBook::with_room(rt.alloc(), 3)?;
-    assert!(rt; finds_both_ends(&mut book));
-    Ok(())
 }
 
 /// Whether a piece is parted and made one again where that may be, and what went and came is told.
@@ -277,13 +268,6 @@ fn parts_and_joins(book: &mut PieceBook) -> Option<bool> {
             && joined.after.as_slice() == [whole].as_slice()
             && book.pieces() == 2,
     )
-}
-
-#[test]
-fn a_piece_is_parted_and_made_one_again(rt: HostRuntime) -> Result<(), Fail> {
-    let mut book = PieceBook::with_room(rt.alloc(), 4)?;
-    assert_eq!(rt; parts_and_joins(&mut book), Some(true));
-    Ok(())
 }
 
 /// Numbers that look like chance, the same in each run.
@@ -351,21 +335,76 @@ fn change(book: &mut PieceBook, numbers: &mut Numbers, dice: &mut Dice) {
     }
 }
 
-#[test]
-fn random_changes_agree_with_the_numbers_one_by_one(rt: HostRuntime) -> Result<(), Fail> {
-    let mut book = PieceBook::with_room(rt.alloc(), 4096)?;
-    let mut numbers = Numbers::with_count(rt.alloc(), 9100)?;
+/// Whether the book and the numbers say the same after each fifty of 3,000 changes, which fill more pages than one.
+fn agrees_with(book: &mut PieceBook, numbers: &mut Numbers) -> bool {
     let mut dice = Dice { state: 1 };
     let whole = Range::between(Space::Asn, 0, 8999);
-    laid(&mut book, &whole, Status::Available);
+    laid(book, &whole, Status::Available);
     numbers.lay(0, 8999, Status::Available);
     for _ in 0..60 {
         for _ in 0..50 {
-            change(&mut book, &mut numbers, &mut dice);
+            change(book, numbers, &mut dice);
         }
-        assert!(rt; numbers.agree(&book));
+        if !numbers.agree(book) {
+            return false;
+        }
     }
-    // They fill more pages than one.
-    assert!(rt; book.pieces() > 500);
+    book.pieces() > 500
+}
+
+fn agrees_with_numbers(alloc: Global, book: &mut PieceBook) -> Result<bool, AllocError> {
+    let mut numbers = Numbers::with_count(alloc, 9100)?;
+    Ok(agrees_with(book, &mut numbers))
+}
+
+/// What is tried on a book of its own.
+#[derive(Clone, Copy)]
+enum Trial {
+    ThreeSpaces,
+    WholeSpace,
+    Parting,
+    ByChance,
+}
+
+fn holds_in(alloc: Global, book: &mut PieceBook, trial: Trial) -> Result<bool, AllocError> {
+    match trial {
+        Trial::ThreeSpaces => has_three_spaces(alloc, book),
+        Trial::WholeSpace => Ok(finds_both_ends(book)),
+        Trial::Parting => Ok(parts_and_joins(book) == Some(true)),
+        Trial::ByChance => agrees_with_numbers(alloc, book),
+    }
+}
+
+/// Whether it holds in a book with room for so many pieces. No other function of the tests owns a book, and this one has one
+/// end behind it, since each end proves again that all of the book is dropped.
+fn holds(alloc: Global, room: u32, trial: Trial) -> Result<bool, AllocError>
+    requires least { 1 ≤ room }
+    requires most { room ≤ 2 ^ 30 }
+{
+    let mut book = PieceBook::with_room(alloc, room)?;
+    holds_in(alloc, &mut book, trial)
+}
+
+#[test]
+fn pieces_of_three_spaces(rt: HostRuntime) -> Result<(), Fail> {
+    assert!(rt; holds(rt.alloc(), 10, Trial::ThreeSpaces)?);
+    Ok(())
+}
+
+#[test]
+fn the_whole_of_ipv4(rt: HostRuntime) -> Result<(), Fail> {
+    assert!(rt; holds(rt.alloc(), 3, Trial::WholeSpace)?);
+    Ok(())
+}
+
+#[test]
+fn a_piece_is_parted_and_made_one_again(rt: HostRuntime) -> Result<(), Fail> {
+    assert!(rt; holds(rt.alloc(), 4, Trial::Parting)?);
+    Ok(())
+}
+
+#[test]
+fn random_changes_agree_with_the_numbers_one_by_one(rt: HostRuntime) -> Result<(), Fail> {
+    assert!(rt; holds(rt.alloc(), 4096, Trial::ByChance)?);
     Ok(())
 }

@@ -2,8 +2,10 @@ ghost use Rattle.std.specs.Prelude.{◌≡◌, IsTrue};
 ghost use Rattle.reg_entry.specs.Pieces.{IsCard, IsPoolRange};
 
 use crate::{due, due_count};
+use num_range::Space::{Asn, Ipv4, Ipv6};
 use num_range::{Range, Space};
 use piece_book::PieceBook;
+use reg_entry::Status::{Allocated, Assigned, Available, Quarantine, Reserved};
 use reg_entry::{Card, Status};
 use std::alloc::{AllocError, Global};
 use std::test::Fail;
@@ -94,76 +96,86 @@ fn first_miscounted(book: &PieceBook, counts: &[(u32, u32)]) -> Option<u32> {
     None
 }
 
+/// In each space some are in quarantine up to the day before 20000, that day and the day after it; and other pieces have
+/// such days too.
+const LAID: [Laid; 13] = [
+    (
+        Ipv6,
+        DOCUMENTATION6,
+        DOCUMENTATION6 + 0xffff,
+        Quarantine,
+        20000,
+    ),
+    (
+        Ipv6,
+        DOCUMENTATION6 + 0x1_0000,
+        DOCUMENTATION6 + 0x1_ffff,
+        Reserved,
+        20000,
+    ),
+    (
+        Ipv6,
+        DOCUMENTATION6 + 0x2_0000,
+        DOCUMENTATION6 + 0x2_ffff,
+        Quarantine,
+        20001,
+    ),
+    (
+        Ipv6,
+        DOCUMENTATION6 + 0x3_0000,
+        DOCUMENTATION6 + 0x3_ffff,
+        Quarantine,
+        19999,
+    ),
+    (Ipv4, 0xc633_6400, 0xc633_64ff, Quarantine, 20000),
+    (Ipv4, 0xc000_0200, 0xc000_027f, Assigned, 19999),
+    (Ipv4, 0xc000_0280, 0xc000_02ff, Quarantine, 19999),
+    (Ipv4, 0xcb00_7100, 0xcb00_71ff, Quarantine, 20001),
+    (Asn, 64500, 64503, Quarantine, 20001),
+    (Asn, 64496, 64499, Quarantine, 20000),
+    (Asn, 64504, 64504, Quarantine, 19999),
+    (Asn, 64505, 64505, Available, 0),
+    (Asn, 64506, 64506, Allocated, 20000),
+];
+
+/// What is due on day 20000.
+const DUE: [(Space, u128, u32); 6] = [
+    (Asn, 64496, 20000),
+    (Asn, 64504, 19999),
+    (Ipv4, 0xc000_0280, 19999),
+    (Ipv4, 0xc633_6400, 20000),
+    (Ipv6, DOCUMENTATION6, 20000),
+    (Ipv6, DOCUMENTATION6 + 0x3_0000, 19999),
+];
+
+/// How many pieces are due by a day.
+const COUNTS: [(u32, u32); 6] = [
+    (0, 0),
+    (19998, 0),
+    (19999, 3),
+    (20000, 6),
+    (20001, 9),
+    (u32::MAX, 9),
+];
+
+/// Whether the pieces are due that should be, in a book that has room for them.
+fn is_due(alloc: Global, book: &mut PieceBook) -> Result<bool, AllocError> {
+    if first_not_laid(book, &LAID).is_some() {
+        return Ok(false);
+    }
+    let walked = walked(alloc, book, 20000)?;
+    Ok(walked.as_slice() == DUE.as_slice() && first_miscounted(book, &COUNTS).is_none())
+}
+
+/// The same of a book of its own. No other function of the tests owns one, and this one has one end behind it, since each
+/// end proves again that all of the book is dropped.
+fn is_due_in_a_book(alloc: Global) -> Result<bool, AllocError> {
+    let mut book = PieceBook::with_room(alloc, 13)?;
+    is_due(alloc, &mut book)
+}
+
 #[test]
 fn quarantines_that_end_by_a_day(rt: HostRuntime) -> Result<(), Fail> {
-    use Space::{Asn, Ipv4, Ipv6};
-    use Status::{Allocated, Assigned, Available, Quarantine, Reserved};
-
-    // In each space some are in quarantine up to the day before 20000, that day and the day after it; and other pieces
-    // have such days too.
-    let rows: [Laid; 13] = [
-        (
-            Ipv6,
-            DOCUMENTATION6,
-            DOCUMENTATION6 + 0xffff,
-            Quarantine,
-            20000,
-        ),
-        (
-            Ipv6,
-            DOCUMENTATION6 + 0x1_0000,
-            DOCUMENTATION6 + 0x1_ffff,
-            Reserved,
-            20000,
-        ),
-        (
-            Ipv6,
-            DOCUMENTATION6 + 0x2_0000,
-            DOCUMENTATION6 + 0x2_ffff,
-            Quarantine,
-            20001,
-        ),
-        (
-            Ipv6,
-            DOCUMENTATION6 + 0x3_0000,
-            DOCUMENTATION6 + 0x3_ffff,
-            Quarantine,
-            19999,
-        ),
-        (Ipv4, 0xc633_6400, 0xc633_64ff, Quarantine, 20000),
-        (Ipv4, 0xc000_0200, 0xc000_027f, Assigned, 19999),
-        (Ipv4, 0xc000_0280, 0xc000_02ff, Quarantine, 19999),
-        (Ipv4, 0xcb00_7100, 0xcb00_71ff, Quarantine, 20001),
-        (Asn, 64500, 64503, Quarantine, 20001),
-        (Asn, 64496, 64499, Quarantine, 20000),
-        (Asn, 64504, 64504, Quarantine, 19999),
-        (Asn, 64505, 64505, Available, 0),
-        (Asn, 64506, 64506, Allocated, 20000),
-    ];
-    let mut book = PieceBook::with_room(rt.alloc(), 13)?;
-    assert_eq!(rt; first_not_laid(&mut book, &rows), None);
-
-    let wanted = [
-        (Asn, 64496, 20000),
-        (Asn, 64504, 19999),
-        (Ipv4, 0xc000_0280, 19999),
-        (Ipv4, 0xc633_6400, 20000),
-        (Ipv6, DOCUMENTATION6, 20000),
-        (Ipv6, DOCUMENTATION6 + 0x3_0000, 19999),
-    ];
-    assert_eq!(rt;
-        walked(rt.alloc(), &book, 20000)?.as_slice(),
-        wanted.as_slice()
-    );
-
-    let counts = [
-        (0, 0),
-        (19998, 0),
-        (19999, 3),
-        (20000, 6),
-        (20001, 9),
-        (u32::MAX, 9),
-    ];
-    assert_eq!(rt; first_miscounted(&book, &counts), None);
+    assert!(rt; is_due_in_a_book(rt.alloc())?);
     Ok(())
 }

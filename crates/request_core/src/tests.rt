@@ -1,3 +1,5 @@
+ghost use Rattle.reg_entry.specs.Rooms.{AreRooms};
+
 use crate::decide;
 use board::Board;
 use num_range::{Number, Range, Space};
@@ -38,6 +40,13 @@ const ROOMS: Rooms = Rooms {
     reverse: 2,
     entries: 10,
     window: 1,
+};
+
+const FEW: Rooms = Rooms {
+    pieces: 2,
+    holders: 1,
+    entries: 4,
+    ..ROOMS
 };
 
 /// 2024-03-01.
@@ -112,8 +121,6 @@ fn refused_requests(range: &Range, handle: &Handle) -> [(Request, Refusal); 3] {
     ]
 }
 
-// A test that has a board and a policy does little else, since each of its ends drops both.
-
 /// Whether an empty register answers a few requests as it should (blocks of RFC 5737 and RFC 3849).
 fn answers_when_empty(board: &Board, policy: &Policy) -> Option<bool> {
     let local = Name::read(b"local")?;
@@ -140,14 +147,6 @@ fn answers_when_empty(board: &Board, policy: &Policy) -> Option<bool> {
     let entry = first_entry(TODAY, &local, &add, None);
     let unknown = Refusal::UnknownHostmaster;
     Some(accepts(board, policy, TODAY, &entry) && refuses(board, policy, &other, &receive, unknown))
-}
-
-#[test]
-fn requests_of_an_empty_register(rt: HostRuntime) -> Result<(), Fail> {
-    let board = Board::with_room(rt.alloc(), ROOMS)?;
-    let policy = Policy::read(rt.alloc(), POLICY.as_bytes())?;
-    assert_eq!(rt; answers_when_empty(&board, &policy), Some(true));
-    Ok(())
 }
 
 /// Why the request is refused, or nothing where it is accepted and taken in.
@@ -208,16 +207,38 @@ fn first_wrong(board: &mut Board, policy: &Policy) -> Option<usize> {
     Some(rows.len())
 }
 
+/// What is tried on a register of its own.
+#[derive(Clone, Copy)]
+enum Trial {
+    Empty,
+    Filling,
+}
+
+fn holds_in(board: &mut Board, policy: &Policy, trial: Trial) -> bool {
+    match trial {
+        Trial::Empty => answers_when_empty(board, policy) == Some(true),
+        Trial::Filling => first_wrong(board, policy) == Some(8),
+    }
+}
+
+/// Whether it holds in a register with these rooms. No other function of the tests owns a board, and this one has one end
+/// behind it, since each end proves again that all of the board is dropped.
+fn holds(rt: &HostRuntime, rooms: Rooms, trial: Trial) -> Result<bool, Fail>
+    requires { AreRooms rooms }
+{
+    let policy = Policy::read(rt.alloc(), POLICY.as_bytes())?;
+    let mut board = Board::with_room(rt.alloc(), rooms)?;
+    Ok(holds_in(&mut board, &policy, trial))
+}
+
+#[test]
+fn requests_of_an_empty_register(rt: HostRuntime) -> Result<(), Fail> {
+    assert!(rt; holds(&rt, ROOMS, Trial::Empty)?);
+    Ok(())
+}
+
 #[test]
 fn requests_that_have_no_room(rt: HostRuntime) -> Result<(), Fail> {
-    let rooms = Rooms {
-        pieces: 2,
-        holders: 1,
-        entries: 4,
-        ..ROOMS
-    };
-    let mut board = Board::with_room(rt.alloc(), rooms)?;
-    let policy = Policy::read(rt.alloc(), POLICY.as_bytes())?;
-    assert_eq!(rt; first_wrong(&mut board, &policy), Some(8));
+    assert!(rt; holds(&rt, FEW, Trial::Filling)?);
     Ok(())
 }

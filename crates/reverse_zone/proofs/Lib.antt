@@ -3,6 +3,7 @@ pub mod Lengths
 pub mod Finding
 pub mod Members
 pub mod Parts
+pub mod EachApex
 pub mod Appended
 pub mod ZoneLines
 pub mod Names

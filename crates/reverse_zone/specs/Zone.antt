@@ -1,5 +1,5 @@
 -- The reverse zones of a register, each as the text of its master file (RFC 1035 5, with the `$TTL` of RFC 2308 4).
-use Rattle.std.specs.Prelude.{ℕ, ◌/◌, ◌%◌, ◌^◌, Bool, nat_le, List, [], ◌∷◌, ◌++◌, map, filter, codes, decimal}
+use Rattle.std.specs.Prelude.{ℕ, ◌-◌, ◌/◌, ◌%◌, ◌^◌, Bool, nat_le, List, [], ◌∷◌, ◌++◌, map, filter, codes, decimal}
 use Rattle.std.specs.List.{flat_map, list_any, range_with_len}
 use Rattle.num_range.specs.declared.space.Space.{Space}
 use Rattle.num_range.specs.declared.space.Space.TheVariants.{Asn, Ipv4, Ipv6}
@@ -18,9 +18,13 @@ use Rattle.reverse_zone.specs.Apex.{apex_range, apex_name, labels_text}
 abbrev pub in_pool : Register → Apex → Bool
 in_pool r apex = list_any (piece_meets (apex_range apex)) (register_pieces r (apex_range apex).space)
 
--- all that a zone can be of, by rising octet, then by rising nibbles
+-- all that a zone can be of, by rising octet from this one on, then by rising nibbles from these on
+abbrev pub apexes_from : ℕ → ℕ → List Apex
+apexes_from octet nibbles = map Four (range_with_len octet (256 - octet)) ++ map Six (range_with_len nibbles (0x400 - nibbles))
+
+-- all that a zone can be of
 abbrev pub apexes : List Apex
-apexes = map Four (range_with_len 0 256) ++ map Six (range_with_len 0x200 512)
+apexes = apexes_from 0 0x200
 
 -- those of the register
 abbrev pub apexes_in : Register → List Apex

@@ -2,6 +2,7 @@
 #![tactic(auto)]
 
 mod apex;
+mod apex_walk;
 mod append;
 mod labels;
 pub mod laws;
@@ -12,5 +13,6 @@ mod tests;
 mod zone;
 
 pub use apex::{Apex, read_apex};
+pub use apex_walk::{ApexWalk, apexes};
 pub use pooled::in_pool;
 pub use zone::write_zone;
