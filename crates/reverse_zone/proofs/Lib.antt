@@ -6,4 +6,5 @@ pub mod Parts
 pub mod Appended
 pub mod ZoneLines
 pub mod Names
+pub mod WholeNames
 pub mod Zoned
