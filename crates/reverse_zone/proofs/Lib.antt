@@ -7,4 +7,5 @@ pub mod EachApex
 pub mod Appended
 pub mod ZoneLines
 pub mod Names
+pub mod WholeNames
 pub mod Zoned

@@ -134,10 +134,10 @@ abbrev pub labels_from : ℕ → ℕ → ℕ → ℕ → ℕ → List ℕ
 labels_from bits n place e first =
     map (λ p. first / 2 ^ p % 2 ^ bits) (filter (λ p. nat_le (2 ^ e) (2 ^ p)) (places_from bits n place))
 
-power_passes : (e p : ℕ) → e ≤ p → nat_le (2 ^ e) (2 ^ p) ≡ true
+pub power_passes : (e p : ℕ) → e ≤ p → nat_le (2 ^ e) (2 ^ p) ≡ true
 power_passes e p h = le-leb (2 ^ e) (2 ^ p) (pow_mono {i = e} {j = p} h)
 
-power_fails : (e p : ℕ) → p < e → nat_le (2 ^ e) (2 ^ p) ≡ false
+pub power_fails : (e p : ℕ) → p < e → nat_le (2 ^ e) (2 ^ p) ≡ false
 power_fails e p h =
     let twice : 2 ^ (1 + p) ≡ 2 ^ 1 * 2 ^ p = pow-add 2 1 p in
     let more : 2 ^ (1 + p) ≤ 2 ^ e = pow_mono {i = 1 + p} {j = e} (omega arith) in
@@ -205,6 +205,17 @@ module _ (bits : ℕ) where
       let lengths = ap length same in
       absurd (omega arith)
 
+  -- a block of one of the places has a label
+  pub labels_some : (n p i f : ℕ) → i < n → labels_from bits n p (p + bits * i) f ≡ [] → ⊥
+  labels_some zero p i f h e = absurd (omega arith)
+  labels_some (suc n) p zero f h e = not_nil (sym (labels_pass n p (p + bits * 0) f (let at = first_place p in omega arith)) ∙ e)
+  labels_some (suc n) p (suc i) f h e = elim (cases_lt p (p + bits * suc i)) [
+    | inl lt ↦
+        labels_some n (p + bits) i f (omega arith)
+        (ap (λ k. labels_from bits n (p + bits) k f) (sym (step i p)) ∙ sym (labels_skip n p (p + bits * suc i) f lt) ∙ e)
+    | inr ge ↦ not_nil (sym (labels_pass n p (p + bits * suc i) f ge) ∙ e)
+  ]
+
   -- the labels tell the size, and the number down to it
   pub from_labels : (n p i j f g : ℕ) → 0 < bits → i ≤ n → j ≤ n → labels_from bits n p (p + bits * i) f ≡ labels_from bits n p (p + bits * j) g
       → f / 2 ^ (p + bits * n) ≡ g / 2 ^ (p + bits * n) → (i ≡ j) × (f / 2 ^ (p + bits * i) ≡ g / 2 ^ (p + bits * i))
@@ -227,11 +238,11 @@ module _ (bits : ℕ) where
 pub record IsLabelled (space : Space) (bits n place : ℕ) (c : PlainRange) : Type 0 where
   pub of_space : c.space ≡ space
   pub digits : ℕ
-  pub fits : digits ≤ n
+  pub fits : digits < n
   pub starts : c.first % 2 ^ (place + bits * digits) ≡ 0
   pub ends : c.last ≡ c.first + (2 ^ (place + bits * digits) - 1)
 
-size_labelled : (space : Space) (bits n place : ℕ) (c : PlainRange) (h : IsLabelled space bits n place c) → size_of c ≡ 2 ^ (place + bits * h.digits)
+pub size_labelled : (space : Space) (bits n place : ℕ) (c : PlainRange) (h : IsLabelled space bits n place c) → size_of c ≡ 2 ^ (place + bits * h.digits)
 size_labelled space bits n place c h = let pos = pow_pos (place + bits * h.digits) in let ends = h.ends in omega arith
 
 pub range_same : (c d : PlainRange) → c.space ≡ d.space → c.first ≡ d.first → c.last ≡ d.last → c ≡ d
@@ -270,7 +281,7 @@ quotient_is f q s pos low high =
 
 module _ (space : Space) (n place : ℕ) (has : HasLabels space) (pos : 0 < label_bits space)
     (places : label_places space ≡ places_from (label_bits space) n place) where
-  labels_are : (c : PlainRange) (h : IsLabelled space (label_bits space) n place c)
+  pub labels_are : (c : PlainRange) (h : IsLabelled space (label_bits space) n place c)
       → cut_labels c ≡ labels_from (label_bits space) n place (place + label_bits space * h.digits) c.first
   labels_are c h =
       ap (λ s. labels_with s (size_of c) c.first) h.of_space
@@ -286,7 +297,7 @@ module _ (space : Space) (n place : ℕ) (has : HasLabels space) (pos : 0 < labe
       let labels : cut_labels c ≡ cut_labels d
       = labels_same space (cut_labels c) (cut_labels d) has (bounded c hc.of_space) (bounded d hd.of_space)
       (sym (name_of c hc.of_space) ∙ same ∙ name_of d hd.of_space) in
-      let told = from_labels (label_bits space) n place hc.digits hd.digits c.first d.first pos hc.fits hd.fits
+      let told = from_labels (label_bits space) n place hc.digits hd.digits c.first d.first pos (omega (arith, hc.fits)) (omega (arith, hd.fits))
       (sym (labels_are c hc) ∙ labels ∙ labels_are d hd) top in
       let exponent : place + label_bits space * hc.digits ≡ place + label_bits space * hd.digits = ap (λ k. place + label_bits space * k) told.0 in
       let first : c.first ≡ d.first
@@ -300,10 +311,10 @@ module _ (space : Space) (n place : ℕ) (has : HasLabels space) (pos : 0 < labe
 
 -- ---- the cuts of an apex
 
-digits4 : (len : ℕ) → is_cut_length Ipv4 len ≡ true → ((24 - len) / 8 ≤ 2) × (8 + 8 * ((24 - len) / 8) ≡ 32 - len)
+digits4 : (len : ℕ) → is_cut_length Ipv4 len ≡ true → ((24 - len) / 8 < 2) × (8 + 8 * ((24 - len) / 8) ≡ 32 - len)
 digits4 len h = (grind (arith, nat_tests), grind (arith, nat_tests))
 
-digits6 : (len : ℕ) → is_cut_length Ipv6 len ≡ true → ((64 - len) / 4 ≤ 13) × (64 + 4 * ((64 - len) / 4) ≡ 128 - len)
+digits6 : (len : ℕ) → is_cut_length Ipv6 len ≡ true → ((64 - len) / 4 < 13) × (64 + 4 * ((64 - len) / 4) ≡ 128 - len)
 digits6 len h = (grind (arith, nat_tests), grind (arith, nat_tests))
 
 pub labelled4 : (r c : PlainRange) → IsReverseCut r c → c.space ≡ Ipv4 → IsLabelled Ipv4 8 2 8 c

@@ -26,6 +26,7 @@ use Rattle.reverse_zone.specs.Zone.{in_pool, apexes, apexes_in, cuts_in, zone_cu
 use Rattle.reverse_zone.specs.Delegated.{zoned_cuts, servers_of, IsEntryCut, AreDelegated}
 use Rattle.reverse_zone.proofs.Members.{Elem, elem_of_contains, contains_of_elem, elem_append, elem_filter, filter_elem, none_passes, RisesAbove, rises_filtered, not_again}
 use Rattle.reverse_zone.proofs.Parts.{CutLaws, nested, cut_order, cut_elem, cuts_rise}
+use Rattle.reverse_zone.proofs.WholeNames.{whole_names}
 use Rattle.reverse_zone.proofs.Names.{names_differ, quotient_is, range_same, labelled4, labelled6}
 
 abbrev pub Entry : Type 0
@@ -445,6 +446,9 @@ module _ (laws : CutLaws) where
   zones_delegate r whole = record {
     once = λ s c at h. once r s c whole (elem_of s r.reverses at) (elem_of c (reverse_cuts s.0) h);
     only = λ apex c h. only r apex c (elem_of c (zone_cuts r apex) h);
+    whole = λ apex c valid h.
+        let (of, inside) = only r apex c (elem_of c (zone_cuts r apex) h) in
+        whole_names apex of.entry.0 c.0 valid (cut_elem laws of.entry.0 c.0 (elem_of c.0 (reverse_cuts of.entry.0) of.cut)) inside;
     names = λ apex c d hc hd e.
         let oc = only r apex c (elem_of c (zone_cuts r apex) hc) in
         let od = only r apex d (elem_of d (zone_cuts r apex) hd) in
