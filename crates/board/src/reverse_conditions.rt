@@ -15,6 +15,7 @@ pub(crate) fn no_reverse_space(range: &Range) -> Option<Refusal>
     Refusal::NoReverseSpace.when(matches!(range.space(), Space::Asn))
 }
 
+/// `==`, as a call whose contract is the definition's test.
 fn is_same(a: &Range, b: &Range) -> bool
     ensures { result ≡ same_range a.now b.now }
 {
