@@ -1,5 +1,5 @@
 //! Whether the register knows what a request speaks of, and it may be asked of it.
-ghost use Rattle.std.specs.Prelude.{◌≡◌};
+ghost use Rattle.std.specs.Prelude.{◌≡◌, ℕ, List};
 ghost use Rattle.reg_entry.specs.declared.request.Request.TheVariants.{SubAssign, Return, Transfer, Split, Join, SetReverse};
 ghost use Rattle.reg_entry.specs.Decision.{first_of, early_rules};
 
@@ -7,7 +7,7 @@ use crate::Board;
 use crate::conditions::begins_space;
 use crate::pooled::outside_unicast;
 use num_range::{Number, Range};
-use reg_entry::{Handle, Refusal, Request, Servers, Status};
+use reg_entry::{Handle, Refusal, Request, Status};
 
 impl Board {
     fn sub_assign_refusal(&self, range: &Range, handle: &Handle) -> Option<Refusal>
@@ -60,10 +60,10 @@ impl Board {
             .or_else(|| self.cards_differ(at))
     }
 
-    fn set_reverse_refusal(&self, range: &Range, servers: &Servers) -> Option<Refusal>
-        ensures { result ≡ first_of (early_rules self.now.register (SetReverse range.now servers.now)) }
+    /// Which servers they are has no part in it.
+    fn set_reverse_refusal(&self, range: &Range) -> Option<Refusal>
+        ensures { (servers : List (List ℕ)) → result ≡ first_of (early_rules self.now.register (SetReverse range.now servers)) }
     {
-        let _ = servers;
         self.outside_pool(range)
             .or_else(|| self.not_in_one_piece(range))
             .or_else(|| self.not_delegated(range.first_number()))
@@ -99,7 +99,7 @@ impl Board {
             Request::Split { at } => self.split_refusal(*at),
             Request::Join { at } => self.join_refusal(*at),
             Request::Transfer { range, from, to } => self.transfer_refusal(range, from, to),
-            Request::SetReverse { range, servers } => self.set_reverse_refusal(range, servers),
+            Request::SetReverse { range, .. } => self.set_reverse_refusal(range),
             Request::ClearReverse { range } => self.no_reverse(range),
         }
     }

@@ -5,7 +5,7 @@ ghost use Rattle.board.specs.declared.lens.Media.TheVariants.{Json};
 ghost use Rattle.delegated_ext.specs.StatisticsText.{statistics_text};
 
 use crate::{StatsLens, write_stats};
-use board::{Answer, Board, Body, Lens, Media, asks_for_no_reverse};
+use board::{Answer, Board, Body, Lens, Media};
 use num_range::{Range, Space};
 use reg_entry::{
     Card, Cc, Delegation, Entry, Handle, Holder, Kind, Name, Request, Rooms, Status, Text,
@@ -202,9 +202,6 @@ fn cover(row: &Row) -> Option<Range> {
 /// Takes the row's entry in where it may come next, and says whether it was.
 fn taken(board: &mut Board, row: &Row) -> Option<()> {
     let request = request(row)?;
-    if !asks_for_no_reverse(&request) {
-        return None;
-    }
     let entry = Entry {
         seq: board.entries() + 1,
         day: row.0,

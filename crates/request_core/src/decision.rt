@@ -1,4 +1,4 @@
-ghost use Rattle.std.specs.Prelude.{◌≡◌, true, None, IfNone};
+ghost use Rattle.std.specs.Prelude.{◌≡◌, None, IfNone};
 ghost use Rattle.std.specs.Option.{option_or};
 ghost use Rattle.num_range.specs.Number.{PlainNumber};
 ghost use Rattle.reg_entry.specs.declared.request.Request.TheVariants.{Split};
@@ -6,7 +6,6 @@ ghost use Rattle.reg_entry.specs.declared.entry.Reply.TheVariants.{Accepted};
 ghost use Rattle.reg_entry.specs.Decision.{decision, first_of, unknown_hostmaster, early_rules, policy_rules, late_refusal, refusal_of, proposed_entry, IfAccepted};
 ghost use Rattle.reg_entry.specs.Next.{IsNextEntry};
 ghost use Rattle.reg_entry.specs.Covers.{IsLeastCover};
-ghost use Rattle.board.specs.Kinds.{asks_for_no_reverse};
 ghost use Rattle.reg_entry.specs.Request.{IsSizedRequest};
 
 use crate::policy_rules::policy_refusal;
@@ -18,7 +17,6 @@ use reg_laws::next::accepted_may_come_next;
 
 /// Why the request is refused on any day, or nothing.
 fn first_refusal(board: &Board, policy: &Policy, who: &Name, request: &Request) -> Option<Refusal>
-    requires kind { asks_for_no_reverse request.now ≡ true }
     ensures refusal { result ≡ option_or (unknown_hostmaster policy.now who.now)
         (option_or (first_of (early_rules board.now.register request.now)) (first_of (policy_rules board.now.register policy.now request.now))) }
     ensures sized { IfNone result (IsSizedRequest request.now) }
@@ -35,7 +33,6 @@ fn first_refusal(board: &Board, policy: &Policy, who: &Name, request: &Request) 
 
 /// Why the entry can't be made on its day, or nothing.
 fn late_refusal(board: &Board, e: &Entry) -> Option<Refusal>
-    requires kind { asks_for_no_reverse e.now.request ≡ true }
     requires split { (at : PlainNumber) → e.now.request ≡ Split at → e.now.card ≡ None }
     ensures { result ≡ late_refusal board.now.register e.now }
 {
@@ -46,13 +43,11 @@ fn late_refusal(board: &Board, e: &Entry) -> Option<Refusal>
 /// covers the least free block of their size.
 #[tactic(auto, using(crate::proofs::Refusals::refused_before))]
 pub fn decide(board: &Board, policy: &Policy, day: u32, who: &Name, request: &Request) -> Reply
-    requires kind { asks_for_no_reverse request.now ≡ true }
     ensures decision { result ≡ decision board.now.register policy.now day who.now request.now }
     ensures accepted { refusal_of board.now.register policy.now day who.now request.now ≡ None
         → result ≡ Accepted (proposed_entry board.now.register policy.now day who.now request.now) }
     ensures next { IfAccepted result (IsNextEntry board.now.register) }
     ensures least { IfAccepted result (λ e. IsLeastCover board.now.register e.request e.cover) }
-    ensures same_kind { IfAccepted result (λ e. asks_for_no_reverse e.request ≡ true) }
 {
     if let Some(refusal) = first_refusal(board, policy, who, request) {
         return Reply::Refused(refusal);

@@ -1,5 +1,5 @@
 use crate::decide;
-use board::{Board, asks_for_no_reverse};
+use board::Board;
 use num_range::{Number, Range, Space};
 use policy_table::Policy;
 use reg_entry::{
@@ -53,20 +53,6 @@ fn holder_of(handle: &Handle) -> Option<Holder> {
     })
 }
 
-/// The answer to a request, of those that are decided today.
-fn answer(
-    board: &Board,
-    policy: &Policy,
-    day: u32,
-    who: &Name,
-    request: &Request,
-) -> Option<Reply> {
-    if !asks_for_no_reverse(request) {
-        return None;
-    }
-    Some(decide(board, policy, day, who, request))
-}
-
 /// The first entry, of a request that paints what it receives if it receives anything.
 fn first_entry(day: u32, who: &Name, request: &Request, received: Option<Range>) -> Entry {
     Entry {
@@ -85,12 +71,12 @@ fn first_entry(day: u32, who: &Name, request: &Request, received: Option<Range>)
 
 /// Whether the request on a day becomes this entry.
 fn accepts(board: &Board, policy: &Policy, day: u32, entry: &Entry) -> bool {
-    answer(board, policy, day, &entry.who, &entry.request) == Some(Reply::Accepted(*entry))
+    decide(board, policy, day, &entry.who, &entry.request) == Reply::Accepted(*entry)
 }
 
 /// Whether the request is refused so.
 fn refuses(board: &Board, policy: &Policy, who: &Name, request: &Request, why: Refusal) -> bool {
-    answer(board, policy, TODAY, who, request) == Some(Reply::Refused(why))
+    decide(board, policy, TODAY, who, request) == Reply::Refused(why)
 }
 
 /// Requests that an empty register refuses, and why: for want of the holder, of the range, and of the IPv6 number in
@@ -166,9 +152,6 @@ fn requests_of_an_empty_register(rt: HostRuntime) -> Result<(), Fail> {
 
 /// Why the request is refused, or nothing where it is accepted and taken in.
 fn taken(board: &mut Board, policy: &Policy, who: &Name, request: &Request) -> Option<Refusal> {
-    if !asks_for_no_reverse(request) {
-        return Some(Refusal::NoSub);
-    }
     match decide(board, policy, TODAY, who, request) {
         Reply::Accepted(entry) => {
             board.apply(&entry);
