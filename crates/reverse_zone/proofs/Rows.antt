@@ -19,6 +19,7 @@ use Rattle.reg_entry.specs.Entry.{PlainEntry}
 use Rattle.reg_entry.specs.Register.{Register, register_after}
 use Rattle.reverse_zone.specs.declared.apex.Apex.TheVariants.{Four, Six}
 use Rattle.reverse_zone.specs.Apex.{apex_name, apex_range}
+use Rattle.reverse_zone.specs.Delegated.{reverse_name}
 use Rattle.reverse_zone.specs.Zone.{cut_name, zone_cuts, zone_text, zones_text}
 
 -- ---- names
@@ -57,6 +58,14 @@ one_nibble = refl
 
 all_nibbles : cut_name (block_of Ipv6 (0x20010db800010002 * 2 ^ 64) 64) ≡ codes "2.0.0.0.1.0.0.0.8.b.d.0.1"
 all_nibbles = refl
+
+-- the whole names of two of them
+whole_of_octets : reverse_name (block_of Ipv4 0xc6336400 24) ≡ codes "100.51.198.in-addr.arpa"
+unfolding digits
+whole_of_octets = refl
+
+whole_of_nibbles : reverse_name (block_of Ipv6 (0x20010db8 * 2 ^ 96) 32) ≡ codes "8.b.d.0.1.0.0.2.ip6.arpa"
+whole_of_nibbles = refl
 
 -- ---- zones
 

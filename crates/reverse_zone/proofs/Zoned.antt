@@ -157,9 +157,6 @@ module _ (laws : CutLaws) where
       omega arith)
 
   module _ {Y : Type 0} (y : Y) (c : PlainRange) where
-    here : Apex → List Y
-    here a = cond (fits c a) (y ∷ []) []
-
     of_apexes : flat_map (λ a. cond (fits c a) (y ∷ []) []) apexes
         ≡ flat_map (λ o. cond (fits c (Four o)) (y ∷ []) []) (range_with_len 0 256) ++ flat_map (λ n. cond (fits c (Six n)) (y ∷ []) []) (range_with_len 0x200 512)
     of_apexes =
