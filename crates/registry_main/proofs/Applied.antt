@@ -5,7 +5,7 @@ use Rattle.std.specs.Str.Lines.{lines, strip_carriage_return}
 use Rattle.std.specs.Io.KnownBytes.{Consumes, IsAtEnd}
 use Rattle.registry_main.specs.Session.{PlainSession, answered, session_after, after_text}
 use Rattle.registry_main.specs.LineBuffer.{HasNoNewline, LeadsAs}
-use Rattle.registry_main.specs.Stats.{IsAfterScript}
+use Rattle.registry_main.specs.Published.{IsAfterScript}
 use Rattle.registry_main.proofs.FirstLine.{lines-line, lines-last}
 
 -- ---- a line

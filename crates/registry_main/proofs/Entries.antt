@@ -1,9 +1,8 @@
 -- The entries that a script's requests become are a legal list, and the script's register is theirs.
-use Rattle.std.proofs.Common.{◌≡◌, ℕ, ◌≤◌, Bool, true, false, cond, List, [], ◌∷◌, ◌++◌, Result, Ok, Err, refl}
+use Rattle.std.proofs.Common.{◌≡◌, ℕ, ◌≤◌, true, List, [], ◌∷◌, ◌++◌, Result, Ok, Err, refl}
 use Rattle.std.specs.Result.{IfOk}
 use Rattle.reg_entry.specs.declared.entry.Reply.{Reply}
 use Rattle.reg_entry.specs.declared.entry.Reply.TheVariants.{Accepted, Refused}
-use Rattle.reg_entry.specs.declared.refusal.Refusal.{Refusal}
 use Rattle.reg_entry.specs.declared.request.Request.{Request as ARequest}
 use Rattle.reg_entry.specs.Days.{last_date}
 use Rattle.reg_entry.specs.Decision.{decision, IfAccepted}
@@ -14,7 +13,6 @@ use Rattle.reg_entry.specs.Policy.{PlainPolicy, IsPolicy}
 use Rattle.reg_entry.specs.Register.{Register, after_entry, after_entries}
 use Rattle.reg_entry.specs.Request.{is_request}
 use Rattle.reg_entry.specs.Whole.{IsWholeRegister}
-use Rattle.board.specs.Kinds.{asks_for_no_reverse}
 use Rattle.desk_lang.specs.declared.line.Line.{Line}
 use Rattle.desk_lang.specs.declared.line.Line.TheVariants.{Request, Show, Due, Day, By, Nothing}
 use Rattle.desk_lang.specs.declared.rest.Malformed.{Malformed}
@@ -49,10 +47,6 @@ same_register s (line ∷ more) = same_of_line s (line_of line) more (λ t. same
 
 -- ---- the entries
 
-refused_or : (b : Bool) (reply : Reply) (x : Refusal) (P : PlainEntry → Type 0) → IfAccepted reply P → IfAccepted (cond b reply (Refused x)) P
-refused_or true reply x P h = h
-refused_or false reply x P h = tt
-
 module _
     (accept : (r : Register) (p : PlainPolicy) (day : ℕ) (who : List ℕ) (request : ARequest) → IsPartition r.pool → r.last_day ≤ last_date
     → IsPolicy p → is_request request ≡ true → IfAccepted (decision r p day who request) (IsNextEntry r))
@@ -75,8 +69,7 @@ module _
   decided_next s request good is =
       let whole = good.whole in
       let days = whole.days in
-      refused_or (asks_for_no_reverse request) _ _ _
-      (accept s.register s.policy s.day s.who request whole.pieces days.1 good.policy is)
+      accept s.register s.policy s.day s.who request whole.pieces days.1 good.policy is
 
   legal_of_line : (s : PlainSession) (line : Result Line Malformed) (more : List (List ℕ)) → IsGood s → IfOk line IsValidLine
       → ((t : PlainSession) → IsGood t → IsLegalFrom t.register (accepted_entries t more))

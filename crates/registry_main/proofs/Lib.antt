@@ -3,7 +3,6 @@ pub mod Ends
 pub mod Entries
 pub mod FirstLine
 pub mod Front
-pub mod OneWord
 pub mod Published
 mod Rows
 pub mod Shown

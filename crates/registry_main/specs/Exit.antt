@@ -25,7 +25,7 @@ policy_fault_text faults.NoMemory = codes "no memory"
 
 abbrev pub fault_text : Exit → List ℕ
 fault_text Done = []
-fault_text Usage = codes "usage: registry_main batch | stats"
+fault_text Usage = codes "usage: registry_main batch | stats | zones"
 fault_text (PolicyRefused fault) = codes "policy: " ++ policy_fault_text fault
 fault_text ReadFault = codes "read fault"
 fault_text WriteFault = codes "write fault"

@@ -5,4 +5,4 @@ pub mod Answer
 pub mod Exit
 pub mod PolicyBytes
 pub mod Command
-pub mod Stats
+pub mod Published

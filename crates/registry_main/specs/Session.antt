@@ -1,5 +1,5 @@
 -- What the lines of a script make of the register, and what each is answered.
-use Rattle.std.specs.Prelude.{ℕ, max, if◌then◌else◌, List, [], ◌∷◌, ◌++◌, Option, None, Some, Result, Ok, Err, codes}
+use Rattle.std.specs.Prelude.{ℕ, max, List, [], ◌∷◌, ◌++◌, Option, None, Some, Result, Ok, Err, codes}
 use Rattle.std.specs.Str.Lines.{lines}
 use Rattle.reg_entry.specs.declared.entry.Reply.{Reply}
 use Rattle.reg_entry.specs.declared.entry.Reply.TheVariants.{Accepted, Refused}
@@ -13,7 +13,6 @@ use Rattle.reg_entry.specs.Entry.{PlainEntry}
 use Rattle.reg_entry.specs.Holders.{handle_of}
 use Rattle.reg_entry.specs.Policy.{PlainPolicy}
 use Rattle.reg_entry.specs.Register.{Register, register_after, after_entry, piece_of}
-use Rattle.board.specs.Kinds.{asks_for_no_reverse}
 use Rattle.quarantine.specs.Due.{due_pieces}
 use Rattle.desk_lang.specs.declared.line.Line.{Line}
 use Rattle.desk_lang.specs.declared.line.Line.TheVariants.{Request, Show, Due, Day, By, Nothing}
@@ -55,10 +54,9 @@ by_name s who = record { register = s.register; policy = s.policy; day = s.day; 
 
 -- ---- requests
 
--- what becomes of a request; those that set or clear a reverse entry aren't decided here
+-- what becomes of a request
 abbrev pub decided : PlainSession → ARequest → Reply
-decided s request =
-    if asks_for_no_reverse request then decision s.register s.policy s.day s.who request else Refused (refusals.Malformed 1)
+decided s request = decision s.register s.policy s.day s.who request
 
 -- the session after a reply: an accepted entry joins the register
 abbrev pub after_reply : PlainSession → Reply → PlainSession

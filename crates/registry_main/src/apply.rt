@@ -4,7 +4,7 @@ ghost use Rattle.std.specs.Io.KnownBytes.{IsAtEnd};
 ghost use Rattle.link_face.specs.Faults.{HasCause};
 ghost use Rattle.registry_main.specs.Session.{answered, after_text};
 ghost use Rattle.registry_main.specs.LineBuffer.{HasNoNewline};
-ghost use Rattle.registry_main.specs.Stats.{IsAfterScript};
+ghost use Rattle.registry_main.specs.Published.{IsAfterScript};
 
 use crate::batch::{PIECE, part_at_newline, without_return};
 use crate::line_buffer::LineBuffer;

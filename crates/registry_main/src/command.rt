@@ -3,13 +3,22 @@ ghost use Rattle.std.specs.Prelude.{◌≡◌, map};
 ghost use Rattle.std.specs.String.{string_bytes};
 ghost use Rattle.registry_main.specs.Command.{command_of};
 
+/// What is published of a register as files.
+#[derive(Clone, Copy, Debug, PartialEq, Eq)]
+pub enum Publication {
+    /// The statistics file.
+    Statistics,
+    /// The reverse zones, one behind the other.
+    Zones,
+}
+
 /// What the program is asked to do.
 #[derive(Clone, Copy, Debug, PartialEq, Eq)]
 pub enum Command {
     /// To answer a script line by line.
     Batch,
-    /// To write the statistics file of the register that a script leaves.
-    Stats,
+    /// To write what is published of the register that a script leaves.
+    Publish(Publication),
 }
 
 impl Command {
@@ -24,7 +33,9 @@ impl Command {
         if word == "batch" {
             Some(Command::Batch)
         } else if word == "stats" {
-            Some(Command::Stats)
+            Some(Command::Publish(Publication::Statistics))
+        } else if word == "zones" {
+            Some(Command::Publish(Publication::Zones))
         } else {
             None
         }

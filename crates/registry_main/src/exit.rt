@@ -16,7 +16,7 @@ pub enum Exit {
     PolicyRefused(PolicyFault),
     /// The policy or the script couldn't be read on.
     ReadFault,
-    /// A reply couldn't be written.
+    /// A reply, or what is published, couldn't be written.
     WriteFault,
     /// There was no memory.
     NoMemory,
@@ -48,7 +48,7 @@ impl fmt::Display for Exit {
     fn fmt<W: fmt::Write>(&self, f: &mut fmt::Formatter<W>) -> fmt::Result {
         match self {
             Exit::Done => Ok(()),
-            Exit::Usage => f.write_str("usage: registry_main batch | stats"),
+            Exit::Usage => f.write_str("usage: registry_main batch | stats | zones"),
             Exit::PolicyRefused(PolicyFault::TooLong) => f.write_str("policy: too long"),
             Exit::PolicyRefused(PolicyFault::Text) => f.write_str("policy: text"),
             Exit::PolicyRefused(PolicyFault::Missing(key)) => write!(f, "policy: missing {key}"),

@@ -12,6 +12,7 @@ ghost use Rattle.reg_entry.specs.Register.{register_after, register_pieces};
 ghost use Rattle.board.specs.Conserved.{IsConservedBy};
 ghost use Rattle.delegated_ext.specs.Conserved.{AreOfReceived};
 ghost use Rattle.delegated_ext.specs.Records.{record_lines};
+ghost use Rattle.reverse_zone.specs.Delegated.{AreDelegated};
 ghost use Rattle.registry_main.specs.Session.{rooms, entries_after, register_over};
 
 use delegated_ext::laws::records_conserve;
@@ -20,6 +21,7 @@ use reg_entry::laws::{block_is_least, overlap_is_least};
 use reg_laws::next::accepted_may_come_next;
 use reg_laws::reached::{legal_entries_go_on, reached_registers_conserve, reached_registers_count};
 use reg_laws::whole::{legal_entries_are_whole, next_entry_keeps_whole};
+use reverse_zone::laws::zones_delegate;
 
 /// The entries that a script's requests become go on legally with a legal list, and the script's register is that of the
 /// whole list.
@@ -55,6 +57,16 @@ pub fn statistics_conserve()
     accepted_entries_are_legal();
     legal_entries_go_on();
     records_conserve();
+}
+
+/// The zones of a script's register have each cut of its reverse entries once, and no other.
+pub fn zones_are_delegated()
+    ensures { (es : List PlainEntry) (p : PlainPolicy) (day : ℕ) (lines : List (List ℕ)) → IsPolicy p → IsLegal rooms es
+        → AreDelegated (register_over es p day lines) }
+{
+    accepted_entries_are_legal();
+    legal_entries_go_on();
+    zones_delegate();
 }
 
 /// In a script's register the block of a delegation is the least free one, and the number of an overlap the least that

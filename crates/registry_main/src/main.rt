@@ -1,5 +1,5 @@
-//! The register's program: `registry_main batch` answers a script, and `registry_main stats` writes the statistics of the
-//! register that it leaves.
+//! The register's program: `registry_main batch` answers a script; `stats` and `zones` write the statistics file and the
+//! reverse zones of the register that a script leaves.
 #![tactic(auto)]
 
 mod answer;
@@ -13,11 +13,11 @@ mod laws;
 mod line_buffer;
 mod policy_bytes;
 mod policy_file;
+mod publish;
 mod run;
 #[cfg(test)]
 mod samples;
 mod session;
-mod stats;
 
 use exit::Exit;
 use link_face::{InSource, OutSink, SystemDay};

@@ -15,12 +15,15 @@ ghost use Rattle.link_face.specs.Faults.{HasRisen};
 ghost use Rattle.board.specs.Conserved.{IsConservedBy};
 ghost use Rattle.delegated_ext.specs.Conserved.{AreOfReceived};
 ghost use Rattle.delegated_ext.specs.Records.{record_lines};
+ghost use Rattle.reverse_zone.specs.Delegated.{AreDelegated};
 ghost use Rattle.registry_main.specs.Session.{rooms, entries_after, register_over};
 ghost use Rattle.registry_main.specs.Batch.{known, IsAnswered};
 ghost use Rattle.registry_main.specs.Command.{command_of};
 ghost use Rattle.registry_main.specs.PolicyBytes.{policy_front, IsSaid, IfSaid};
-ghost use Rattle.registry_main.specs.Stats.{IsPublished};
-ghost use Rattle.registry_main.specs.declared.command.Command.TheVariants.{Batch, Stats};
+ghost use Rattle.registry_main.specs.Published.{IsPublished};
+ghost use Rattle.registry_main.specs.declared.command.Command.TheVariants.{Batch, Publish};
+ghost use Rattle.registry_main.specs.declared.command.Publication.{Publication};
+ghost use Rattle.registry_main.specs.declared.command.Publication.TheVariants.{Statistics};
 ghost use Rattle.registry_main.specs.declared.exit.Exit.TheVariants.{Done, Usage, PolicyRefused, ReadFault, WriteFault, NoMemory};
 
 use crate::batch::{Stop, answer_script};
@@ -28,10 +31,11 @@ use crate::command::Command;
 use crate::exit::Exit;
 use crate::laws::{
     accepted_entries_are_legal, answers_are_least, scripts_conserve, statistics_conserve,
+    zones_are_delegated,
 };
 use crate::policy_bytes::{NoPolicy, read_policy};
+use crate::publish::answer_publication;
 use crate::session::Session;
-use crate::stats::answer_stats;
 use link_face::{Clock, Sink, Source};
 use policy_table::Policy;
 use std::alloc::Global;
@@ -66,8 +70,8 @@ fn answer_batch<T: Source, K: Sink, C: Clock>(
     }
 }
 
-/// Does what the words say, by the rules of the policy: `batch` answers the script line by line, and `stats` writes the
-/// statistics file of the register that the script leaves.
+/// Does what the words say, by the rules of the policy: `batch` answers the script line by line; `stats` and `zones` write
+/// the statistics file and the reverse zones of the register that the script leaves.
 pub fn run<R: AllocGlobal, S: Source, T: Source, K: Sink, C: Clock>(
     rt: &R,
     words: &[String],
@@ -97,20 +101,21 @@ pub fn run<R: AllocGlobal, S: Source, T: Source, K: Sink, C: Clock>(
         × IsAnswered p day (known (T.taken script.old) (T.left script.old) (K.written out.old)) result
         (known (T.taken script.new) (T.left script.new) (K.written out.new))) }
 
-    // `stats`: what is written is the statistics file of the register that they build. Nothing is written before all of the
-    // text is there.
-    ensures published { command_of (map string_bytes words.now) ≡ Some Stats → ((result ≢ Done) × (out.new ≡ out.old))
+    // `stats` and `zones`: what is written is the statistics file, or the reverse zones, of the register that they build.
+    // Nothing is written before the script has ended, and of the statistics nothing before all of the file is there.
+    ensures published { (what : Publication) → command_of (map string_bytes words.now) ≡ Some (Publish what)
+        → ((result ≢ Done) × (out.new ≡ out.old))
         ⊎ ((p : PlainPolicy) × IsPolicy p × IsSaid (S.left policy.old) (Ok p) × (day : ℕ) × C.states clock.old day
-        × IsPublished p day (known (T.taken script.old) (T.left script.old) (K.written out.old)) result
+        × IsPublished what p day (known (T.taken script.old) (T.left script.old) (K.written out.old)) result
         (known (T.taken script.new) (T.left script.new) (K.written out.new))) }
-    ensures unwritten { command_of (map string_bytes words.now) ≡ Some Stats → result ≢ Done → result ≢ WriteFault → out.new ≡ out.old }
+    ensures unwritten { (what : Publication) → command_of (map string_bytes words.now) ≡ Some (Publish what) → result ≡ ReadFault → out.new ≡ out.old }
+    ensures whole { command_of (map string_bytes words.now) ≡ Some (Publish Statistics) → result ≡ NoMemory → out.new ≡ out.old }
 
     // Done comes at the script's end alone.
     ensures ended { result ≡ Done → T.has_ended script.new }
 
-    // Want of memory is told before anything is written, and of `batch` before anything is read of the script.
-    ensures no_memory_written { result ≡ NoMemory → out.new ≡ out.old }
-    ensures unread { command_of (map string_bytes words.now) ≡ Some Batch → result ≡ NoMemory → script.new ≡ script.old }
+    // `batch` tells want of memory before anything is read of the script and anything is written.
+    ensures unread { command_of (map string_bytes words.now) ≡ Some Batch → result ≡ NoMemory → (script.new ≡ script.old) × (out.new ≡ out.old) }
 
     // A fault is answered only where the outside failed in this run, and where it did the run ends with that fault.
     ensures read_fault { result ≡ ReadFault →
@@ -137,6 +142,11 @@ pub fn run<R: AllocGlobal, S: Source, T: Source, K: Sink, C: Clock>(
     ensures records { (es : List PlainEntry) (p : PlainPolicy) (day : ℕ) (lines : List (List ℕ)) → IsPolicy p → IsLegal rooms es
         → AreOfReceived (entries_after es p day lines) (record_lines (register_over es p day lines)) }
 
+    // So each cut of each of its reverse entries stands in one place of one of its zones, with the entry's servers; the zones
+    // have no other cuts, and two cuts of a zone have two names.
+    ensures zones { (es : List PlainEntry) (p : PlainPolicy) (day : ℕ) (lines : List (List ℕ)) → IsPolicy p → IsLegal rooms es
+        → AreDelegated (register_over es p day lines) }
+
     // A delegation takes the least free block, aligned and all of it available, and an overlap is told by the least
     // number that is taken.
     ensures least { (es : List PlainEntry) (p : PlainPolicy) (day : ℕ) (lines : List (List ℕ)) (space : Space) (size : ℕ)
@@ -152,6 +162,7 @@ pub fn run<R: AllocGlobal, S: Source, T: Source, K: Sink, C: Clock>(
     accepted_entries_are_legal();
     scripts_conserve();
     statistics_conserve();
+    zones_are_delegated();
     answers_are_least();
     let Some(command) = Command::read(words) else {
         return Exit::Usage;
@@ -159,7 +170,9 @@ pub fn run<R: AllocGlobal, S: Source, T: Source, K: Sink, C: Clock>(
     match read_policy(rt.alloc(), policy) {
         Ok(policy) => match command {
             Command::Batch => answer_batch(rt.alloc(), policy, script, out, clock),
-            Command::Stats => answer_stats(rt.alloc(), policy, script, out, clock),
+            Command::Publish(what) => {
+                answer_publication(rt.alloc(), policy, what, script, out, clock)
+            }
         },
         Err(NoPolicy::Read) => Exit::ReadFault,
         Err(NoPolicy::Refused(fault)) => Exit::PolicyRefused(fault),

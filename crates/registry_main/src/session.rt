@@ -8,10 +8,13 @@ ghost use Rattle.desk_text.specs.ReplyText.{ReplyHasDate};
 ghost use Rattle.registry_main.specs.Answer.{answer_text, HasDates};
 ghost use Rattle.registry_main.specs.declared.answer.Answer.TheVariants.{Shown};
 ghost use Rattle.registry_main.specs.Session.{new_session, decided, after_reply, shown_text, step_of, answered};
-ghost use Rattle.registry_main.specs.Stats.{session_stats};
+ghost use Rattle.registry_main.specs.Published.{session_text};
+ghost use Rattle.registry_main.specs.declared.command.Publication.TheVariants.{Statistics};
+ghost use Rattle.reverse_zone.specs.Apex.{IsApex};
+ghost use Rattle.reverse_zone.specs.Zone.{in_pool, zone_text};
 
 use crate::answer::Answer;
-use board::{Board, Body, asks_for_no_reverse};
+use board::{Board, Body};
 use delegated_ext::write_stats;
 use desk_lang::{Line, read_line};
 use num_range::Number;
@@ -19,6 +22,7 @@ use piece_book::PieceBook;
 use policy_table::Policy;
 use reg_entry::{Handle, Name, Piece, Refusal, Reply, Request, Rooms, clamped_day};
 use request_core::decide;
+use reverse_zone::{Apex, in_pool, write_zone};
 use std::alloc::{AllocError, Global};
 use std::marker::Model;
 
@@ -91,9 +95,6 @@ impl Session {
         ensures date { ReplyHasDate result }
     {
         self.board.is_whole();
-        if !asks_for_no_reverse(request) {
-            return malformed(1);
-        }
         let reply = decide(&self.board, &self.policy, self.day, &self.who, request);
         if let Reply::Accepted(entry) = &reply {
             self.board.apply(entry);
@@ -167,10 +168,26 @@ impl Session {
     }
 
     /// The statistics file of the register.
-    pub fn stats(&self, alloc: Global) -> Result<Body, AllocError>
-        ensures { IfOk result (λ body. body ≡ session_stats self.now) }
+    pub fn statistics(&self, alloc: Global) -> Result<Body, AllocError>
+        ensures { IfOk result (λ body. body ≡ session_text Statistics self.now) }
     {
         write_stats(alloc, &self.board, self.policy.registry())
+    }
+
+    /// Whether the register has numbers whose names lie in the zone.
+    pub fn has_zone(&self, apex: Apex) -> bool
+        requires { IsApex apex }
+        ensures { result ≡ in_pool self.now.register apex }
+    {
+        in_pool(&self.board, apex)
+    }
+
+    /// The reverse zone.
+    pub fn zone(&self, alloc: Global, apex: Apex) -> Result<Body, AllocError>
+        requires { IsApex apex }
+        ensures { IfOk result (λ body. body ≡ zone_text self.now.register self.now.policy.zone apex) }
+    {
+        write_zone(alloc, &self.board, self.policy.zone(), apex)
     }
 }
 

@@ -1,5 +1,5 @@
 -- The list of all apexes: it steps by one, and has apexes alone.
-use Rattle.std.proofs.Common.{◌≡◌, ℕ, zero, suc, ◌+◌, ◌-◌, ◌<◌, ◌≤◌, List, [], ◌∷◌, ◌++◌, map, refl, ◌∙◌, ap, subst, sym, arith}
+use Rattle.std.proofs.Common.{◌≡◌, ℕ, zero, suc, ◌+◌, ◌-◌, ◌<◌, ◌≤◌, List, ◌∷◌, ◌++◌, map, ap, arith}
 use Rattle.std.specs.List.{range_with_len, AllByRecursion}
 use Rattle.reverse_zone.specs.declared.apex.Apex.{Apex}
 use Rattle.reverse_zone.specs.declared.apex.Apex.TheVariants.{Four, Six}
@@ -14,10 +14,12 @@ numbers_step a n less =
     ap (range_with_len a) one
 
 pub octet_step : (octet nibbles : ℕ) → octet < 256 → apexes_from octet nibbles ≡ Four octet ∷ apexes_from (octet + 1) nibbles
+unfolding apexes_from
 octet_step octet nibbles less =
     ap (λ ns. map Four ns ++ map Six (range_with_len nibbles (0x400 - nibbles))) (numbers_step octet 256 less)
 
 pub nibbles_step : (nibbles : ℕ) → nibbles < 0x400 → apexes_from 256 nibbles ≡ Six nibbles ∷ apexes_from 256 (nibbles + 1)
+unfolding apexes_from
 nibbles_step nibbles less = ap (λ ns. map Six ns) (numbers_step nibbles 0x400 less)
 
 -- ---- apexes alone
@@ -31,4 +33,5 @@ sixes a zero low h = tt
 sixes a (suc n) low h = ((low, omega arith), sixes (a + 1) n (omega arith) (omega arith))
 
 pub are_apexes : AllByRecursion IsApex apexes
+unfolding apexes_from
 are_apexes = fours 0 256 (map Six (range_with_len 0x200 512)) (omega arith) (sixes 0x200 512 (omega arith) (omega arith))

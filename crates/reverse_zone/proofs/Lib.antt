@@ -1,6 +1,7 @@
 mod Rows
 pub mod Lengths
 pub mod Finding
+pub mod NoZone
 pub mod Members
 pub mod Parts
 pub mod EachApex

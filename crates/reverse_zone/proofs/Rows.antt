@@ -20,7 +20,7 @@ use Rattle.reg_entry.specs.Register.{Register, register_after}
 use Rattle.reverse_zone.specs.declared.apex.Apex.TheVariants.{Four, Six}
 use Rattle.reverse_zone.specs.Apex.{apex_name, apex_range}
 use Rattle.reverse_zone.specs.Delegated.{reverse_name}
-use Rattle.reverse_zone.specs.Zone.{cut_name, zone_cuts, zone_text, zones_text}
+use Rattle.reverse_zone.specs.Zone.{apexes_from, cut_name, zone_cuts, zone_text, zones_text}
 
 -- ---- names
 
@@ -114,10 +114,11 @@ zone_of_block = refl
 -- it is the one zone of the register
 zones_of_block : zones_text of_block terms
     ≡ codes "$ORIGIN 0.0.2.ip6.arpa.\n$TTL 172800\n@ IN SOA ns1.exreg.example. hostmaster.exreg.example. 4 7200 1800 604800 3600\n@ IN NS ns1.exreg.example.\n8.b.d.0.1 IN NS ns1.alpha.example.\n"
-unfolding digits reverse_cuts blocks_inside
+unfolding digits reverse_cuts blocks_inside apexes_from
 zones_of_block = refl
 
 zones_of_nothing : zones_text (register_after rooms []) terms ≡ []
+unfolding apexes_from
 zones_of_nothing = refl
 
 -- 198.51.100.0/22 has four cuts, and 198.51.104.0/26 none

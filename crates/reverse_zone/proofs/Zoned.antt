@@ -22,7 +22,7 @@ use Rattle.reg_entry.specs.Whole.{IsWholeRegister, IsReverseIn, AreReversesIn}
 use Rattle.reverse_zone.specs.declared.apex.Apex.{Apex}
 use Rattle.reverse_zone.specs.declared.apex.Apex.TheVariants.{Four, Six}
 use Rattle.reverse_zone.specs.Apex.{apex_range}
-use Rattle.reverse_zone.specs.Zone.{in_pool, apexes, apexes_in, cuts_in, zone_cuts}
+use Rattle.reverse_zone.specs.Zone.{in_pool, apexes, apexes_from, apexes_in, cuts_in, zone_cuts}
 use Rattle.reverse_zone.specs.Delegated.{zoned_cuts, servers_of, IsEntryCut, AreDelegated}
 use Rattle.reverse_zone.proofs.Members.{Elem, elem_of_contains, contains_of_elem, elem_append, elem_filter, filter_elem, none_passes, RisesAbove, rises_filtered, not_again}
 use Rattle.reverse_zone.proofs.Parts.{CutLaws, nested, cut_order, cut_elem, cuts_rise}
@@ -159,6 +159,7 @@ module _ (laws : CutLaws) where
   module _ {Y : Type 0} (y : Y) (c : PlainRange) where
     of_apexes : flat_map (λ a. cond (fits c a) (y ∷ []) []) apexes
         ≡ flat_map (λ o. cond (fits c (Four o)) (y ∷ []) []) (range_with_len 0 256) ++ flat_map (λ n. cond (fits c (Six n)) (y ∷ []) []) (range_with_len 0x200 512)
+    unfolding apexes_from
     of_apexes =
         flat_map-append (λ a. cond (fits c a) (y ∷ []) []) (map Four (range_with_len 0 256)) (map Six (range_with_len 0x200 512))
         ∙ ap (λ (ys : List Y). ys ++ flat_map (λ a. cond (fits c a) (y ∷ []) []) (map Six (range_with_len 0x200 512)))

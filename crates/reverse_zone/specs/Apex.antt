@@ -1,6 +1,6 @@
 -- The tops of the reverse zones: one for each first octet of the IPv4 addresses (RFC 1035 3.5), and one for each /12 of the
 -- IPv6 addresses (RFC 3596 2.5).
-use Rattle.std.specs.Prelude.{ℕ, ◌*◌, ◌/◌, ◌%◌, ◌^◌, ◌<◌, ◌≤◌, List, [], ◌∷◌, ◌++◌, codes, decimal}
+use Rattle.std.specs.Prelude.{ℕ, Bool, true, ◌&&◌, nat_le, ◌*◌, ◌/◌, ◌%◌, ◌^◌, ◌<◌, ◌≤◌, List, [], ◌∷◌, ◌++◌, codes, decimal}
 use Rattle.std.specs.List.{flat_map}
 use Rattle.std.specs.Char.{digit_char}
 use Rattle.num_range.specs.declared.space.Space.{Space}
@@ -14,6 +14,11 @@ use Rattle.reverse_zone.specs.declared.apex.Apex.TheVariants.{Four, Six}
 abbrev pub IsApex : Apex → Type 0
 IsApex (Four octet) = octet < 256
 IsApex (Six nibbles) = (0x200 ≤ nibbles) × (nibbles ≤ 0x3ff)
+
+-- the same as a test that computes
+abbrev pub is_apex : Apex → Bool
+is_apex (Four octet) = true
+is_apex (Six nibbles) = nat_le 0x200 nibbles && nat_le nibbles 0x3ff
 
 -- the addresses whose names lie in the zone
 abbrev pub apex_range : Apex → PlainRange

@@ -19,7 +19,7 @@ abbrev pub in_pool : Register → Apex → Bool
 in_pool r apex = list_any (piece_meets (apex_range apex)) (register_pieces r (apex_range apex).space)
 
 -- all that a zone can be of, by rising octet from this one on, then by rising nibbles from these on
-abbrev pub apexes_from : ℕ → ℕ → List Apex
+unfoldable pub apexes_from : ℕ → ℕ → List Apex
 apexes_from octet nibbles = map Four (range_with_len octet (256 - octet)) ++ map Six (range_with_len nibbles (0x400 - nibbles))
 
 -- all that a zone can be of

@@ -47,6 +47,7 @@ impl Iterator for ApexWalk {
 
     ghost remaining = { item_count (λ left. left) };
 
+    #[tactic(auto, unfolding(crate::specs::Zone::apexes_from))]
     fn next(&mut self) -> Option<Apex> {
         if self.octet < 256 {
             let octet = self.octet as u8;

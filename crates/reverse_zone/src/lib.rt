@@ -11,8 +11,10 @@ mod pooled;
 #[cfg(test)]
 mod tests;
 mod zone;
+mod zone_lens;
 
 pub use apex::{Apex, read_apex};
 pub use apex_walk::{ApexWalk, apexes};
 pub use pooled::in_pool;
 pub use zone::write_zone;
+pub use zone_lens::ZoneLens;

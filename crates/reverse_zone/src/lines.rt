@@ -12,7 +12,7 @@ use num_range::Range;
 use reg_entry::{Host, Servers, ZoneTerms};
 use std::alloc::AllocError;
 
-/// Writes the line of a name server, which has at most 169 bytes.
+/// Writes the line of a name server, which has at most 157 bytes.
 fn write_server(name: &[u8], server: &Host, out: &mut ArrayVec<u8, 256>)
     requires empty { out.old.items ≡ [] }
     requires short { length name.now ≤ 64 }

@@ -1,8 +1,8 @@
 //! Names that are read, by a table, and zones of a register with reverse entries, against texts by hand.
 ghost use Rattle.std.specs.Prelude.{◌≡◌};
 
-use crate::{Apex, in_pool, read_apex, write_zone};
-use board::Board;
+use crate::{Apex, ZoneLens, in_pool, read_apex, write_zone};
+use board::{Board, Lens, Media};
 use num_range::{Range, Space};
 use reg_entry::{
     Card, Cc, Delegation, Entry, Handle, Holder, Host, Kind, Name, Request, Rooms, Servers, Status,
@@ -258,6 +258,44 @@ fn is_zone(alloc: Global, board: &Board, name: &str, text: &str) -> Result<bool,
     Ok(body.bytes() == text.as_bytes())
 }
 
+/// The error of a zone that the register hasn't (RFC 9083 6).
+const NOT_FOUND: &str =
+    r#"{"description":["no such object"],"errorCode":404,"rdapConformance":["rdap_level_0"],"title":"Not Found"}"#;
+
+/// Whether a question for the zone is answered so.
+fn is_answered(
+    alloc: Global,
+    board: &Board,
+    apex: Apex,
+    wanted: (u16, Media, &str),
+) -> Result<bool, AllocError> {
+    let Some(terms) = terms() else {
+        return Ok(false);
+    };
+    let lens = ZoneLens { terms, apex };
+    let answer = lens.read(alloc, board)?;
+    let (status, media, text) = wanted;
+    Ok(
+        answer.body.bytes() == text.as_bytes()
+            && (answer.status, answer.media, answer.entries) == (status, media, board.entries()),
+    )
+}
+
+/// Whether the lens tells the zones that there are, and no others: of an octet, of an apex, and of nibbles that are none's.
+fn are_answered(alloc: Global, board: &Board) -> Result<bool, AllocError> {
+    let missing = (404, Media::Json, NOT_FOUND);
+    Ok(
+        is_answered(
+            alloc,
+            board,
+            Apex::Four(198),
+            (200, Media::Plain, FOUR_ZONE),
+        )? && is_answered(alloc, board, Apex::Four(199), missing)?
+            && is_answered(alloc, board, Apex::Six(0x201), missing)?
+            && is_answered(alloc, board, Apex::Six(0xffff), missing)?,
+    )
+}
+
 /// Whether the zones are as they should be once the rows were taken.
 fn are_zones(alloc: Global, board: &mut Board) -> Result<bool, AllocError> {
     if first_refused(board, &SIX_ROWS).is_some()
@@ -273,14 +311,20 @@ fn are_zones(alloc: Global, board: &mut Board) -> Result<bool, AllocError> {
             && !is_pooled(board, "199.in-addr.arpa")
             && !is_pooled(board, "1.0.2.ip6.arpa")
             && is_zone(alloc, board, "198.in-addr.arpa", FOUR_ZONE)?
-            && is_zone(alloc, board, "10.in-addr.arpa", EMPTY_ZONE)?,
+            && is_zone(alloc, board, "10.in-addr.arpa", EMPTY_ZONE)?
+            && are_answered(alloc, board)?,
     )
 }
 
-// A test that has a board does little else, since each of its ends drops the board.
+/// The same of a register of its own. No other function of the tests owns a board, and this one has one end behind it,
+/// since each end proves again that all of the board is dropped.
+fn are_zones_of_a_board(alloc: Global) -> Result<bool, AllocError> {
+    let mut board = Board::with_room(alloc, ROOMS)?;
+    are_zones(alloc, &mut board)
+}
+
 #[test]
 fn zones_of_reverse_entries(rt: HostRuntime) -> Result<(), Fail> {
-    let mut board = Board::with_room(rt.alloc(), ROOMS)?;
-    assert!(rt; are_zones(rt.alloc(), &mut board)?);
+    assert!(rt; are_zones_of_a_board(rt.alloc())?);
     Ok(())
 }

@@ -8,6 +8,7 @@ mod faults;
 mod lines;
 mod statistics;
 mod transcripts;
+mod zones;
 
 // 2024-03-01
 const DAY: FixedDay = FixedDay(19783);

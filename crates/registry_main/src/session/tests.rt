@@ -21,11 +21,12 @@ holder ORG-E enduser FR "Eve" "e@e.example"
 
 /// A line a row: the refusals whose rules are against the request, the situation, what is accepted before, the request,
 /// and why it is refused. In a tight situation one holder may hold 128 allocated numbers, of which it has to sub-assign
-/// four fifths; the register has no room for more pieces, holders, subs or entries where the situation names them.
+/// four fifths; the register has no room for more pieces, holders, subs,
+/// reverse entries or entries where the situation names them.
 const ROWS: &str = r#"
 N1 | | | delegate ipv4 /33 allocated ORG-A | N1 Malformed 15
-N1 | | | reverse 192.0.2.0/25 ns1.alpha.example | N1 Malformed 1
-N1 | | | unreverse 192.0.2.0/25 | N1 Malformed 1
+N1 | | | reverse 192.0.2.0/25 | N1 Malformed 21
+N1 | | | reverse 192.0.2.0/25 localhost | N1 Malformed 22
 
 N2 | | by nobody | reserve 192.0.2.200 | N2 UnknownHostmaster
 N2 N10 N11 N13 N14 N32 | entries | by nobody | return 192.0.2.0-192.0.3.0 ORG-X | N2 UnknownHostmaster
@@ -40,6 +41,9 @@ N2 N19 | | delegate ipv4 /26 allocated ORG-B; by nobody | join 192.0.2.128 | N2 
 N2 N20 N21 N22 N23 N28 | tight | edit ORG-A enduser DE "Alpha" "a@alpha.example"; by nobody | delegate ipv4 /19 allocated ORG-A | N2 UnknownHostmaster
 N2 N24 | | transfer 192.0.2.0/25 ORG-A ORG-B; by nobody | transfer 192.0.2.0/25 ORG-B ORG-A | N2 UnknownHostmaster
 N2 N25 | | return 192.0.2.0/25 ORG-A; by nobody | release 192.0.2.0/25 | N2 UnknownHostmaster
+N2 N10 N11 N16 N32 N34 | entries reverse | reverse 192.0.2.0/26 ns1.alpha.example; by nobody | reverse 192.0.2.32-192.0.3.0 ns1.alpha.example | N2 UnknownHostmaster
+N2 N18 N32 | entries | by nobody | unreverse 192.0.2.0/25 | N2 UnknownHostmaster
+N2 N29 | | receive AS64496-AS64511; delegate asn 4 assigned ORG-A; by nobody | reverse AS64496 ns1.alpha.example | N2 UnknownHostmaster
 
 N10 | | | receive 4000::/16 | N10 OutsidePool 4000::
 N10 | | | reserve 192.0.3.0 | N10 OutsidePool 192.0.3.0
@@ -56,6 +60,10 @@ N10 N11 N25 | | return 192.0.2.0/25 ORG-A | release 192.0.2.0-192.0.3.0 | N10 Ou
 N10 N12 | | receive 198.51.100.0/24 | join 198.51.100.0 | N10 OutsidePool 198.51.99.255
 N10 N16 | | receive 3fff::/16 | receive 3fff::-4000:: | N10 OutsidePool 4000::
 N10 N30 N32 | pieces entries | | receive 4000::/16 | N10 OutsidePool 4000::
+N10 | | | reverse 192.0.3.0 ns1.alpha.example | N10 OutsidePool 192.0.3.0
+N10 N29 N32 N34 | entries reverse | reverse 192.0.2.0/26 ns1.alpha.example | reverse AS1 ns1.alpha.example | N10 OutsidePool AS1
+N10 N11 N16 N32 N34 | entries reverse | reverse 192.0.2.0/26 ns1.alpha.example | reverse 192.0.2.32-192.0.3.0 ns1.alpha.example | N10 OutsidePool 192.0.3.0
+N10 N11 N12 N34 | reverse | reverse 192.0.2.0/26 ns1.alpha.example | reverse 192.0.2.200-192.0.3.0 ns1.alpha.example | N10 OutsidePool 192.0.3.0
 
 N11 | | reserve 192.0.2.255 | reserve 192.0.2.200-192.0.2.255 | N11 NotOnePiece 192.0.2.128 - 192.0.2.254
 N11 | | | return 192.0.2.0/26 ORG-A | N11 NotOnePiece 192.0.2.0 - 192.0.2.127
@@ -73,6 +81,10 @@ N11 N12 | | | split 192.0.2.128 | N11 NotOnePiece 192.0.2.128 - 192.0.2.255
 N11 N12 | | | join 192.0.2.200 | N11 NotOnePiece 192.0.2.128 - 192.0.2.255
 N11 N13 N14 N21 N22 N24 N32 | tight entries | delegate ipv4 /26 assigned ORG-E; transfer 192.0.2.0/25 ORG-A ORG-B | transfer 192.0.2.0/26 ORG-X ORG-E | N11 NotOnePiece 192.0.2.0 - 192.0.2.127
 N11 N25 | | return 192.0.2.0/25 ORG-A | release 192.0.2.0/26 | N11 NotOnePiece 192.0.2.0 - 192.0.2.127
+N11 | | | reverse 192.0.2.120-192.0.2.130 ns1.alpha.example | N11 NotOnePiece 192.0.2.0 - 192.0.2.127
+N11 N16 N32 N34 | entries reverse | reverse 192.0.2.112/28 ns1.alpha.example | reverse 192.0.2.120-192.0.2.130 ns1.alpha.example | N11 NotOnePiece 192.0.2.0 - 192.0.2.127
+N11 N12 N16 N34 | reverse | receive 192.0.1.0/24; reverse 192.0.2.0/27 ns1.alpha.example | reverse 192.0.1.255-192.0.2.0 ns1.alpha.example | N11 NotOnePiece 192.0.1.0 - 192.0.1.255
+N11 N29 | | receive AS64496-AS64511; delegate asn 4 assigned ORG-A | reverse AS64499-AS64500 ns1.alpha.example | N11 NotOnePiece AS64496 - AS64499
 
 N12 | | | reserve 192.0.2.5 | N12 WrongStatus allocated
 N12 | | | unreserve 192.0.2.128/25 | N12 WrongStatus available
@@ -86,6 +98,9 @@ N12 N19 | | | join 192.0.2.128 | N12 WrongStatus available
 N12 N25 | | transfer 192.0.2.0/25 ORG-A ORG-B | release 192.0.2.0/25 | N12 WrongStatus allocated
 N12 N30 N32 | pieces entries | | reserve 192.0.2.5 | N12 WrongStatus allocated
 N12 N30 | pieces | | split 192.0.2.200 | N12 WrongStatus available
+N12 | | | reverse 192.0.2.200 ns1.alpha.example | N12 WrongStatus available
+N12 N32 N34 | entries reverse | reverse 192.0.2.0/26 ns1.alpha.example | reverse 192.0.2.200 ns1.alpha.example | N12 WrongStatus available
+N12 N29 | | receive AS64496-AS64511 | reverse AS64496 ns1.alpha.example | N12 WrongStatus available
 
 N13 | | | edit ORG-X lir FR "X" "x@x.example" | N13 UnknownHolder ORG-X
 N13 | | | delegate ipv4 /26 assigned ORG-X | N13 UnknownHolder ORG-X
@@ -112,10 +127,16 @@ N16 | | | receive 192.0.2.255-192.0.3.10 | N16 Overlap 192.0.2.255
 N16 N30 N32 | pieces entries | | receive 192.0.2.64-192.0.2.70 | N16 Overlap 192.0.2.64
 N16 | | sub 192.0.2.32/27 ORG-A | sub 192.0.2.63-192.0.2.70 ORG-B | N16 Overlap 192.0.2.63
 N16 N32 N33 | entries subs | sub 192.0.2.32/27 ORG-A | sub 192.0.2.0-192.0.2.40 ORG-A | N16 Overlap 192.0.2.32
+N16 | | reverse 192.0.2.32/27 ns1.alpha.example | reverse 192.0.2.63-192.0.2.70 ns1.alpha.example | N16 Overlap 192.0.2.63
+N16 N32 N34 | entries reverse | reverse 192.0.2.32/27 ns1.alpha.example | reverse 192.0.2.0/25 ns1.alpha.example | N16 Overlap 192.0.2.32
 
 N17 | | | unsub 192.0.2.0/27 | N17 NoSub
 N17 | | sub 192.0.2.0/27 ORG-A | unsub 192.0.2.0/26 | N17 NoSub
 N17 N32 | entries | sub 192.0.2.0/27 ORG-A | unsub 192.0.2.0/28 | N17 NoSub
+N18 | | | unreverse 192.0.2.0/25 | N18 NoReverse
+N18 | | reverse 192.0.2.0/27 ns1.alpha.example | unreverse 192.0.2.0/26 | N18 NoReverse
+N18 N32 | entries | reverse 192.0.2.0/26 ns1.alpha.example | unreverse 192.0.2.0/27 | N18 NoReverse
+N18 | | reverse 192.0.2.0/26 ns1.alpha.example; return 192.0.2.0/25 ORG-A | unreverse 192.0.2.0/26 | N18 NoReverse
 
 N19 | | delegate ipv4 /26 allocated ORG-B | join 192.0.2.128 | N19 CardsDiffer 192.0.2.0 - 192.0.2.127
 N19 N32 | entries | delegate ipv4 /26 allocated ORG-B | join 192.0.2.128 | N19 CardsDiffer 192.0.2.0 - 192.0.2.127
@@ -153,8 +174,13 @@ N26 | | sub 192.0.2.0/27 ORG-A; sub 192.0.2.64 ORG-B | return 192.0.2.0/25 ORG-A
 N26 N32 | entries | sub 192.0.2.32/27 ORG-A | return 192.0.2.0/25 ORG-A | N26 HasSubs 1
 N27 | | sub 192.0.2.32/27 ORG-A | split 192.0.2.63 | N27 Straddled 192.0.2.32 - 192.0.2.63
 N27 N30 N32 | pieces entries | sub 192.0.2.32/27 ORG-A | split 192.0.2.48 | N27 Straddled 192.0.2.32 - 192.0.2.63
+N27 | | reverse 192.0.2.32/27 ns1.alpha.example | split 192.0.2.63 | N27 Straddled 192.0.2.32 - 192.0.2.63
+N27 | | sub 192.0.2.32/28 ORG-A; reverse 192.0.2.32/27 ns1.alpha.example | split 192.0.2.40 | N27 Straddled 192.0.2.32 - 192.0.2.47
+N27 N30 N32 | pieces entries | sub 192.0.2.48/28 ORG-A; reverse 192.0.2.32/27 ns1.alpha.example | split 192.0.2.40 | N27 Straddled 192.0.2.32 - 192.0.2.63
 N28 | | | delegate ipv4 /24 allocated ORG-B | N28 NoBlock
 N28 N32 | entries | | delegate ipv4 /24 allocated ORG-B | N28 NoBlock
+N29 | | receive AS64496-AS64511; delegate asn 4 assigned ORG-A | reverse AS64496 ns1.alpha.example | N29 NoReverseSpace
+N29 N32 N34 | entries reverse | reverse 192.0.2.0/26 ns1.alpha.example; receive AS64496-AS64511; delegate asn 4 assigned ORG-A | reverse AS64496 ns1.alpha.example | N29 NoReverseSpace
 N30 | pieces | | reserve 192.0.2.200 | N30 RegisterFull 4 2
 N30 | pieces | | split 192.0.2.64 | N30 RegisterFull 3 2
 N30 N32 | pieces entries | | delegate ipv4 /26 allocated ORG-B | N30 RegisterFull 3 2
@@ -165,6 +191,10 @@ N32 | entries | sub 192.0.2.32/27 ORG-A | unsub 192.0.2.32/27 | N32 JournalFull 
 N32 N33 | entries subs | sub 192.0.2.32/27 ORG-A | sub 192.0.2.64/27 ORG-A | N32 JournalFull 6
 N33 | subs | sub 192.0.2.32/27 ORG-A | sub 192.0.2.64/27 ORG-A | N33 SubsFull 1
 N32 | entries | return 192.0.2.0/25 ORG-A; day 20240331 | release 192.0.2.0/25 | N32 JournalFull 6
+N32 | entries reverse | reverse 192.0.2.0/26 ns1.alpha.example | reverse 192.0.2.0/26 ns2.alpha.example | N32 JournalFull 6
+N32 | entries | reverse 192.0.2.0/26 ns1.alpha.example | unreverse 192.0.2.0/26 | N32 JournalFull 6
+N32 N34 | entries reverse | reverse 192.0.2.0/26 ns1.alpha.example | reverse 192.0.2.64/26 ns1.alpha.example | N32 JournalFull 6
+N34 | reverse | reverse 192.0.2.0/26 ns1.alpha.example | reverse 192.0.2.64/26 ns1.alpha.example | N34 ReverseFull 1
 "#;
 
 /// A session over a register with these rooms.
@@ -241,6 +271,11 @@ fn rooms_in(situation: &str, session: &Session) -> Rooms
         pieces: room(situation.contains("pieces"), pieces, ROOMS.pieces),
         holders: room(situation.contains("holders"), holders, ROOMS.holders),
         subs: room(situation.contains("subs"), board.subs().len(), ROOMS.subs),
+        reverse: room(
+            situation.contains("reverse"),
+            board.reverse().len(),
+            ROOMS.reverse,
+        ),
         entries: u64::from(room(situation.contains("entries"), entries, 1_000_000)),
         ..ROOMS
     }

@@ -101,6 +101,28 @@ join 192.0.2.64
 show 192.0.2.64
 > 192.0.2.0 - 192.0.2.127 allocated ORG-A 20240301 -
 =
+# name servers for the reverse names of a range: given, replaced, taken back; a return takes those inside
+delegate ipv4 /25 allocated ORG-A
+> ok 3 192.0.2.0 - 192.0.2.127
+reverse 192.0.2.0/26 ns1.alpha.example
+> ok 4 -
+reverse 192.0.2.0/26 ns2.alpha.example ns1.alpha.example
+> ok 5 -
+split 192.0.2.32
+> refused N27 Straddled 192.0.2.0 - 192.0.2.63
+unreverse 192.0.2.0/26
+> ok 6 -
+unreverse 192.0.2.0/26
+> refused N18 NoReverse
+split 192.0.2.32
+> ok 7 192.0.2.0 - 192.0.2.127
+reverse 192.0.2.64/26 ns1.alpha.example
+> ok 8 -
+return 192.0.2.32-192.0.2.127 ORG-A
+> ok 9 192.0.2.32 - 192.0.2.127
+unreverse 192.0.2.64/26
+> refused N18 NoReverse
+=
 # an end user has numbers for its own use alone
 holder ORG-E enduser FR "Eve" "e@e.example"
 > ok 3 -
