@@ -19,6 +19,7 @@ holder ORG-A lir DE "Alpha Net" "noc@alpha.example"
 delegate asn 4 assigned ORG-A
 delegate ipv4 /25 allocated ORG-A
 delegate ipv6 /32 allocated ORG-A
+reverse AS64496 ns1.alpha.example
 > 2|exreg|7|5|20240301|20240301|+0000
 > exreg|*|asn|*|2|summary
 > exreg|*|ipv4|*|2|summary

@@ -202,6 +202,8 @@ delegate ipv4 /25 allocated ORG-A
 > ok 6 192.0.2.0 - 192.0.2.127
 delegate ipv6 /32 allocated ORG-A
 > ok 7 2001:db8:: - 2001:db8:ffff:ffff:ffff:ffff:ffff:ffff
+reverse AS64496 ns1.alpha.example
+> refused N29 NoReverseSpace
 delegate asn 13 assigned ORG-A
 > refused N28 NoBlock
 show AS64497
