@@ -1,0 +1,4 @@
+pub mod Utf8
+pub mod Trees
+pub mod Registering
+pub mod Alike
