@@ -9,7 +9,6 @@ use Rattle.reg_entry.specs.Register.{Register}
 use Rattle.reg_entry.specs.Sums.{narrowest}
 use Rattle.rdap_query.specs.declared.ask.RdapAsk.{RdapAsk}
 use Rattle.rdap_query.specs.declared.ask.RdapAsk.TheVariants.{Ip, Autnum, Help}
-use Rattle.rdap_json.specs.declared.facts.NetFacts.{NetFacts}
 use Rattle.rdap_json.specs.RdapAnswer.{holder_in, facts_of, facts_round, found_answer, rdap_answer, TellAlike}
 
 -- the facts of what is found, by its holder

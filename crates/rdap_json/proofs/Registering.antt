@@ -1,17 +1,19 @@
 -- What is found in a whole register has a holder and a day.
-use Rattle.std.proofs.Common.{◌≡◌, ℕ, zero, suc, ◌<◌, ◌≤◌, true, List, [], ◌∷◌, length, Option, None, Some, IfSome, refl, sym, ap, ◌∙◌, subst, arith}
+use Rattle.std.proofs.Common.{◌≡◌, ℕ, zero, suc, ◌<◌, List, [], ◌∷◌, length, Option, None, Some, IfSome, slice_get, refl, sym, ◌∙◌, subst, arith}
 use Rattle.std.specs.List.{Contains}
+use Rattle.std.specs.Option.{IsSome, option_map, option_and_then}
 use Rattle.std.proofs.lemmas.Option.{none-some, same_Some}
 use Rattle.num_range.specs.Range.{PlainRange}
 use Rattle.reg_entry.specs.declared.piece.Piece.{Piece}
 use Rattle.reg_entry.specs.declared.sub_card.SubCard.{SubCard}
 use Rattle.reg_entry.specs.declared.found.Found.{Found}
+use Rattle.reg_entry.specs.declared.holder.Holder.{Holder}
 use Rattle.reg_entry.specs.declared.found.Found.TheVariants.{Piece as ThePiece, Sub as TheSub}
-use Rattle.reg_entry.specs.Days.{last_date}
 use Rattle.reg_entry.specs.Register.{Register, register_pieces}
 use Rattle.reg_entry.specs.Sums.{narrowest}
 use Rattle.reg_entry.specs.Whole.{IsKnownHolder, IsCardIn, HaveCardsIn, IsSubIn, AreSubsIn, IsWholeRegister}
 use Rattle.reg_laws.specs.Narrowest.{IsRound, IsNarrowest}
+use Rattle.rdap_json.specs.RdapAnswer.{holder_in, facts_of, facts_round}
 use Rattle.rdap_json.specs.Registered.{IsRegistered}
 
 card_in : (r : Register) (ps : List Piece) (p : Piece) → HaveCardsIn r ps → Contains ps p → IsCardIn r p.card
@@ -50,3 +52,35 @@ pub narrowest_registered : (r : Register) (range : PlainRange) (o : Option Found
     → ((s : Register) (q : PlainRange) → IsNarrowest s q (narrowest s q)) → o ≡ narrowest r range → o ≡ Some f → IsRegistered r f
 narrowest_registered r range o f whole least found is =
     registered r range f whole (round_of r range (narrowest r range) f (least r range) (sym found ∙ is))
+
+-- ---- and so it is told
+
+some_at : (hs : List (Holder × ℕ)) (n : ℕ) → n < length hs → IsSome (slice_get hs n)
+some_at [] n h = absurd (omega arith)
+some_at (m ∷ hs) zero h = refl
+some_at (m ∷ hs) (suc n) h = some_at hs n (omega arith)
+
+still_some : {A B : Type 0} (f : A → B) (o : Option A) → IsSome o → IsSome (option_map f o)
+still_some f None h = h
+still_some f (Some x) h = refl
+
+holder_there : (r : Register) (o : Option ℕ) → IsKnownHolder r o → IsSome (option_and_then (slice_get r.holders) o)
+holder_there r None h = absurd h
+holder_there r (Some n) h = some_at r.holders n h
+
+told : (r : Register) (range : PlainRange) (f : Found) → IsWholeRegister r → IsRound r range f → IsSome (option_map (facts_of f) (holder_in r.holders f))
+told r range (ThePiece p) whole round =
+    let card = card_in r (register_pieces r range.space) p (whole.cards range.space) round.0 in
+    still_some (facts_of (ThePiece p)) _ (still_some (λ m. m.0) _ (holder_there r p.card.holder (card.holder round.1)))
+told r range (TheSub s card parent) whole round =
+    let sub = sub_in r r.subs (s, card) whole.subs round.0 in
+    still_some (facts_of (TheSub s card parent)) _ (still_some (λ m. m.0) _ (holder_there r (Some card.holder) sub.holder))
+
+told_where : (r : Register) (range : PlainRange) (o : Option Found) → IsWholeRegister r → IsNarrowest r range o → IsSome o
+    → IsSome (option_and_then (λ f. option_map (facts_of f) (holder_in r.holders f)) o)
+told_where r range None whole narrow h = h
+told_where r range (Some f) whole narrow h = told r range f whole narrow.0
+
+pub found_told : ((s : Register) (q : PlainRange) → IsNarrowest s q (narrowest s q)) → (r : Register) (range : PlainRange) → IsWholeRegister r
+    → IsSome (narrowest r range) → IsSome (facts_round r range)
+found_told least r range whole h = told_where r range (narrowest r range) whole (least r range) h

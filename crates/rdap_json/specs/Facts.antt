@@ -1,8 +1,7 @@
 -- What a network is made of, and which facts are those of a registration.
-use Rattle.std.specs.Prelude.{ℕ, ◌≤◌, ◌↔◌, ◌≡◌, Option, IsSome}
+use Rattle.std.specs.Prelude.{◌≤◌, ◌↔◌, ◌≡◌, IsSome}
 use Rattle.reg_entry.specs.Days.{last_date}
 use Rattle.rdap_json.specs.declared.facts.NetFacts.{NetFacts}
-use Rattle.rdap_json.specs.declared.facts.NetKind.{NetKind}
 use Rattle.rdap_json.specs.declared.facts.NetKind.TheVariants.{Sub}
 
 -- the day is one that is written, and there is a parent exactly where the network is a sub-assignment

@@ -20,29 +20,29 @@ use Rattle.rdap_json.specs.Tree.{Member, object_of, array_of}
 abbrev pub property_tree : List ℕ → List ℕ → Data
 property_tree name value = array_of (string name ∷ object_of [] ∷ string (codes "text") ∷ string value ∷ [])
 
--- a jCard (RFC 7095 3.1)
-abbrev pub vcard_tree : Holder → Data
-vcard_tree holder = array_of (
-  string (codes "vcard")
-  ∷ array_of (
+abbrev pub properties : Holder → List Data
+properties holder =
     property_tree (codes "version") (codes "4.0")
     ∷ property_tree (codes "fn") holder.name
     ∷ property_tree (codes "kind") (codes "org")
     ∷ property_tree (codes "email") holder.email
     ∷ []
-  )
-  ∷ []
-)
+
+-- a jCard (RFC 7095 3.2)
+abbrev pub vcard_tree : Holder → Data
+vcard_tree holder = array_of (string (codes "vcard") ∷ array_of (properties holder) ∷ [])
 
 -- the holder as the one for whom the numbers are registered (RFC 9083 5.1)
+abbrev pub entity_members : Holder → List Member
+entity_members holder =
+    (codes "handle", string holder.handle)
+    ∷ (codes "objectClassName", string (codes "entity"))
+    ∷ (codes "roles", array_of (string (codes "registrant") ∷ []))
+    ∷ (codes "vcardArray", vcard_tree holder)
+    ∷ []
+
 abbrev pub entity_tree : Holder → Data
-entity_tree holder = object_of (
-  (codes "handle", string holder.handle)
-  ∷ (codes "objectClassName", string (codes "entity"))
-  ∷ (codes "roles", array_of (string (codes "registrant") ∷ []))
-  ∷ (codes "vcardArray", vcard_tree holder)
-  ∷ []
-)
+entity_tree holder = object_of (entity_members holder)
 
 -- ---- what every registration has
 
@@ -57,11 +57,8 @@ midnight_text day = midnight_of (date_of_day day)
 
 -- that the numbers were registered on the day (RFC 9083 4.5)
 abbrev pub registration_tree : ℕ → Data
-registration_tree day = object_of (
-  (codes "eventAction", string (codes "registration"))
-  ∷ (codes "eventDate", string (midnight_text day))
-  ∷ []
-)
+registration_tree day =
+    object_of ((codes "eventAction", string (codes "registration")) ∷ (codes "eventDate", string (midnight_text day)) ∷ [])
 
 abbrev pub type_word : NetKind → List ℕ
 type_word Allocated = codes "ALLOCATED"
@@ -93,7 +90,7 @@ address_members version r parent =
     ∷ (codes "startAddress", string (text_of r.space r.first))
     ∷ parent_members parent
 
--- AS numbers (RFC 9083 5.5)
+-- AS numbers (RFC 9083 5.5), of which no parent is told
 abbrev pub autnum_members : PlainRange → List Member
 autnum_members r =
     (codes "endAutnum", number (unsigned r.last))

@@ -22,7 +22,7 @@ use Rattle.wire_http.specs.ErrorBody.{description_of, error_text}
 use Rattle.rdap_json.specs.declared.facts.NetFacts.{NetFacts}
 use Rattle.rdap_json.specs.declared.facts.NetKind.{NetKind}
 use Rattle.rdap_json.specs.declared.facts.NetKind.TheVariants.{Allocated, Assigned, Sub}
-use Rattle.rdap_json.specs.Tree.{object_of, array_of}
+use Rattle.rdap_json.specs.Tree.{Member, object_of, array_of}
 use Rattle.rdap_json.specs.Network.{conformance, network_tree}
 
 -- ---- what is found, with its holder
@@ -52,33 +52,26 @@ facts_round r range =
 
 -- ---- the answer
 
--- what is served (RFC 9083 7)
+-- what is served, in words (RFC 9083 4.3)
+abbrev pub help_notice : Data
+help_notice =
+    object_of ((codes "description", array_of (string (codes "RDAP lookups of this registry") ∷ [])) ∷ (codes "title", string (codes "Help")) ∷ [])
+
+-- RFC 9083 7
 abbrev pub help_tree : Data
-help_tree = object_of (
-  (
-    codes "notices",
-    array_of (
-      object_of (
-        (codes "description", array_of (string (codes "RDAP lookups of this registry") ∷ []))
-        ∷ (codes "title", string (codes "Help"))
-        ∷ []
-      )
-      ∷ []
-    ),
-  )
-  ∷ conformance
-  ∷ []
-)
+help_tree = object_of ((codes "notices", array_of (help_notice ∷ [])) ∷ conformance ∷ [])
 
 -- an error (RFC 9083 6)
+abbrev pub error_members : ℕ → ℕ → Bool → List Member
+error_members code entries shut =
+    (codes "description", array_of (string (description_of code entries shut) ∷ []))
+    ∷ (codes "errorCode", number (unsigned code))
+    ∷ conformance
+    ∷ (codes "title", string (title_of code))
+    ∷ []
+
 abbrev pub error_tree : ℕ → ℕ → Bool → Data
-error_tree code entries shut = object_of (
-  (codes "description", array_of (string (description_of code entries shut) ∷ []))
-  ∷ (codes "errorCode", number (unsigned code))
-  ∷ conformance
-  ∷ (codes "title", string (title_of code))
-  ∷ []
-)
+error_tree code entries shut = object_of (error_members code entries shut)
 
 -- the network, or an error where there is none
 abbrev pub found_answer : ℕ → Option NetFacts → Answer
