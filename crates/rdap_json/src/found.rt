@@ -1,5 +1,5 @@
 //! What was found round a range, with its holder.
-ghost use Rattle.std.specs.Prelude.{◌≡◌, ◌<◌, length, slice_get, IfSome, Some};
+ghost use Rattle.std.specs.Prelude.{◌≡◌, IfSome};
 ghost use Rattle.std.specs.Option.{option_map};
 ghost use Rattle.rdap_json.specs.Facts.{AreNetFacts};
 ghost use Rattle.rdap_json.specs.RdapAnswer.{holder_in, kind_of, facts_of, facts_round};
@@ -8,7 +8,7 @@ ghost use Rattle.rdap_json.specs.Registered.{IsRegistered};
 use crate::{NetFacts, NetKind};
 use board::{Board, Found};
 use num_range::Range;
-use reg_entry::{Holder, Status};
+use reg_entry::Status;
 use reg_laws::narrowest::narrowest_is_least;
 
 fn kind_of(status: Status) -> NetKind

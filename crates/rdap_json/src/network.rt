@@ -1,4 +1,4 @@
-ghost use Rattle.std.specs.Prelude.{◌≡◌, ◌≢◌, ◌≤◌, IfOk, OnOk};
+ghost use Rattle.std.specs.Prelude.{◌≡◌, ◌≤◌, IfOk, OnOk};
 ghost use Rattle.num_range.specs.declared.space.Space.TheVariants.{Asn};
 ghost use Rattle.serde_json.specs.View.{view};
 ghost use Rattle.reg_entry.specs.Days.{last_date};
