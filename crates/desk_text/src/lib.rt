@@ -4,6 +4,7 @@
 mod append;
 mod due_text;
 mod entry_text;
+pub mod laws;
 mod reply_text;
 mod request_text;
 mod shown_text;

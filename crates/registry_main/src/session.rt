@@ -17,6 +17,7 @@ use crate::answer::Answer;
 use board::{Board, Body};
 use delegated_ext::write_stats;
 use desk_lang::{Line, read_line};
+use desk_text::laws::replies_have_dates;
 use num_range::Number;
 use piece_book::PieceBook;
 use policy_table::Policy;
@@ -95,6 +96,8 @@ impl Session {
         ensures date { ReplyHasDate result }
     {
         self.board.is_whole();
+        // A law, for `date`.
+        replies_have_dates();
         let reply = decide(&self.board, &self.policy, self.day, &self.who, request);
         if let Reply::Accepted(entry) = &reply {
             self.board.apply(entry);
