@@ -1,0 +1,9 @@
+pub mod Turns
+pub mod Links
+pub mod Parts
+pub mod Codes
+pub mod Names
+pub mod Serving
+pub mod Rising
+pub mod Ending
+pub mod Breaking

@@ -1,0 +1,15 @@
+pub mod Standing
+pub mod Written
+pub mod Backend
+pub mod Path
+pub mod Line
+pub mod Lookup
+pub mod AtLeast
+pub mod Ask
+pub mod Reply
+pub mod Turn
+pub mod Prefixes
+pub mod Answer
+pub mod Receive
+pub mod Pause
+pub mod Conversation

@@ -1,0 +1,36 @@
+-- How far the register behind a connection has come, and what has failed there.
+use Rattle.std.specs.Prelude.{ℕ, List, ⊤, Bool, true, false}
+use Rattle.reg_entry.specs.Entry.{PlainEntry}
+use Rattle.link_face.specs.Faults.{HasRisen}
+use Rattle.hall.specs.declared.backend.Fault.{Fault}
+use Rattle.hall.specs.declared.backend.Fault.TheVariants.{NoMemory, Shut, DiskFailed}
+
+-- the entries that have been seen, how often no snapshot could be read, and how often the disk has failed
+pub record Standing : Type 0 where
+  pub entries : List PlainEntry
+  pub refusals : ℕ
+  pub failures : ℕ
+
+abbrev pub standing : List PlainEntry → ℕ → ℕ → Standing
+standing entries refusals failures = record { entries = entries; refusals = refusals; failures = failures }
+
+-- the same counts, over other entries
+abbrev pub over : List PlainEntry → Standing → Standing
+over entries s = record { entries = entries; refusals = s.refusals; failures = s.failures }
+
+-- the counts that each fault raises, or that stand at their last value; want of memory is counted nowhere
+abbrev pub IsCausedBetween : Fault → Standing → Standing → Type 0
+IsCausedBetween NoMemory before after = ⊤
+IsCausedBetween Shut before after = HasRisen before.refusals after.refusals
+IsCausedBetween DiskFailed before after = HasRisen before.failures after.failures
+
+-- the code of the reply that tells of the fault (RFC 9110 15.6)
+abbrev pub fault_code : Fault → ℕ
+fault_code NoMemory = 503
+fault_code Shut = 503
+fault_code DiskFailed = 500
+
+abbrev pub is_shut : Fault → Bool
+is_shut NoMemory = false
+is_shut Shut = true
+is_shut DiskFailed = false

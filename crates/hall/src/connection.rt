@@ -1,0 +1,183 @@
+//! One connection, from its first message to its end.
+ghost use Rattle.std.specs.Prelude.{◌≡◌, ◌≢◌, ◌<◌, ◌⊎◌, ℕ, Bool, true, false, List, [], Err, IfOk, IsTrue, IsFalse, Ok, length};
+ghost use Rattle.link_face.specs.Faults.{HasCause, HasRisen};
+ghost use Rattle.reg_laws.specs.Reached.{IsRegisterOf};
+ghost use Rattle.reg_entry.specs.Entry.{PlainEntry};
+ghost use Rattle.hall.specs.Standing.{Standing, standing};
+ghost use Rattle.hall.specs.Turn.{terms, alone};
+ghost use Rattle.hall.specs.Answer.{AnswersGiven};
+ghost use Rattle.hall.specs.Conversation.{HasConversation, known};
+ghost use Rattle.hall.specs.Pause.{HasServed, HasPauseCode, HasClosed};
+ghost use Rattle.hall.specs.Written.{read_side};
+ghost use Rattle.hall.specs.declared.connection.Pause.TheVariants.{More as TheMore};
+ghost use Rattle.wire_http.specs.declared.message.ConnEnd.TheVariants.{Closed, ReadFault, WriteFault};
+ghost use Rattle.wire_http.specs.Messages.{IsMessage};
+ghost use Rattle.wire_http.specs.Step.{AreLengthsOf};
+
+use crate::Backend;
+use crate::answers::answer;
+use crate::receive::receive;
+use crate::reply::tell_closing;
+use board::Board;
+use link_face::{Clock, Failed, Link};
+use policy_table::Policy;
+use std::alloc::Global;
+use wire_http::{ConnEnd, Framer, Head, Message, Step};
+
+/// Why no further message is answered.
+#[derive(Clone, Copy)]
+pub(crate) enum Pause {
+    /// The last one asked for the end of the connection.
+    Asked,
+    /// More bytes are wanted.
+    More,
+    /// What comes is no message; the reply has this code.
+    Bad(u16),
+    /// The input ended.
+    End,
+}
+
+fn wants_more(pause: Pause) -> bool
+    ensures more { IsTrue result → pause ≡ TheMore }
+    ensures other { IsFalse result → pause ≢ TheMore }
+{
+    matches!(pause, Pause::More)
+}
+
+/// Answers the message that the framer gave last, and says whether the connection ends behind it.
+fn answer_message<L: Link, C: Clock, B: Backend>(
+    alloc: Global,
+    link: &mut L,
+    framer: &Framer,
+    message: &Message,
+    backend: &mut B,
+    policy: &Policy,
+    clock: &C,
+) -> Result<bool, Failed>
+    requires lengths { AreLengthsOf message.now framer.now.given }
+    requires message { IsMessage framer.now.given }
+    ensures answered { (before : Standing) → B.stands backend.old before → (after : Standing) × B.stands backend.new after
+        × AnswersGiven (terms (B.rooms backend.old) policy.now (C.states clock.now) B.goes_on B.may_fail) framer.now.given before result
+        (L.written link.old) (L.written link.new) after }
+    ensures rooms { B.rooms backend.new ≡ B.rooms backend.old }
+    ensures cause { HasCause (L.Source.faults link.old) (L.Source.faults link.new) result }
+    ensures reading { read_side (L.taken link.new) (L.left link.new) (L.budget link.new) ≡ read_side (L.taken link.old) (L.left link.old) (L.budget link.old) }
+    ensures end { L.has_ended link.old → L.has_ended link.new }
+{
+    let Some(head) = Head::read(framer.head(message)) else {
+        unreachable!()
+    };
+    let body = framer.body(message);
+    answer(alloc, link, &head, body, backend, policy, clock)?;
+    Ok(head.asks_to_close())
+}
+
+/// Answers the messages that have come, up to one that asks for the end of the connection.
+fn answer_messages<L: Link, C: Clock, B: Backend>(
+    alloc: Global,
+    link: &mut L,
+    framer: &mut Framer,
+    ended: bool,
+    backend: &mut B,
+    policy: &Policy,
+    clock: &C,
+) -> Result<Pause, Failed>
+    ensures served { (before : Standing) → B.stands backend.old before → (after : Standing) × B.stands backend.new after
+        × HasServed (terms (B.rooms backend.old) policy.now (C.states clock.now) B.goes_on B.may_fail) before result framer.old.bytes framer.new.bytes ended
+        (L.written link.old) (L.written link.new) after }
+    ensures code { IfOk result HasPauseCode }
+    ensures more { result ≡ Ok TheMore → (0 < framer.new.spare) × IsFalse ended }
+    ensures rooms { B.rooms backend.new ≡ B.rooms backend.old }
+    ensures cause { HasCause (L.Source.faults link.old) (L.Source.faults link.new) result }
+    ensures reading { read_side (L.taken link.new) (L.left link.new) (L.budget link.new) ≡ read_side (L.taken link.old) (L.left link.old) (L.budget link.old) }
+    ensures end { L.has_ended link.old → L.has_ended link.new }
+{
+    'messages: loop {
+        let message = match framer.next(ended) {
+            Step::Message(message) => message,
+            Step::More => return Ok(Pause::More),
+            Step::Bad(code) => return Ok(Pause::Bad(code)),
+            Step::End => return Ok(Pause::End),
+        };
+        if answer_message(alloc, link, framer, &message, backend, policy, clock)? {
+            return Ok(Pause::Asked);
+        }
+    }
+}
+
+/// Says what is said at the end.
+fn close<L: Link>(link: &mut L, pause: Pause) -> ConnEnd
+    requires { HasPauseCode pause }
+    ensures closed { HasClosed result pause (L.written link.old) (L.written link.new) }
+    ensures fault { result ≡ WriteFault → HasRisen (L.Source.faults link.old) (L.Source.faults link.new) }
+    ensures told { result ≡ Closed → L.Source.faults link.new ≡ L.Source.faults link.old }
+    ensures taken { L.taken link.new ≡ L.taken link.old }
+    ensures left { L.left link.new ≡ L.left link.old }
+    ensures end { L.has_ended link.old → L.has_ended link.new }
+{
+    match pause {
+        Pause::Bad(code) => match tell_closing(link, code) {
+            Ok(()) => ConnEnd::Closed,
+            Err(Failed) => ConnEnd::WriteFault,
+        },
+        Pause::Asked | Pause::More | Pause::End => ConnEnd::Closed,
+    }
+}
+
+/// Serves one connection over whatever stands behind it.
+pub fn serve<L: Link, C: Clock, B: Backend>(
+    alloc: Global,
+    link: &mut L,
+    framer: &mut Framer,
+    backend: &mut B,
+    policy: &Policy,
+    clock: &C,
+) -> ConnEnd
+    ensures conversation { (before : Standing) → B.stands backend.old before → (after : Standing) × B.stands backend.new after
+        × HasConversation (terms (B.rooms backend.old) policy.now (C.states clock.now) B.goes_on B.may_fail) before
+        (known (L.taken link.old) (L.left link.old) (L.written link.old)) result (L.has_ended link.new)
+        (known (L.taken link.new) (L.left link.new) (L.written link.new)) after }
+    ensures fault { (result ≡ ReadFault) ⊎ (result ≡ WriteFault) → HasRisen (L.Source.faults link.old) (L.Source.faults link.new) }
+    ensures told { result ≡ Closed → L.Source.faults link.new ≡ L.Source.faults link.old }
+    ensures ends { (result ≡ Closed) ⊎ (result ≡ ReadFault) ⊎ (result ≡ WriteFault) }
+{
+    framer.clear();
+    'pieces: loop {
+        let pause = match answer_messages(alloc, link, framer, false, backend, policy, clock) {
+            Err(Failed) => return ConnEnd::WriteFault,
+            Ok(pause) => pause,
+        };
+        if !wants_more(pause) {
+            return close(link, pause);
+        }
+        match receive(link, framer) {
+            Err(Failed) => return ConnEnd::ReadFault,
+            Ok(true) => {}
+            Ok(false) => break,
+        }
+    }
+    match answer_messages(alloc, link, framer, true, backend, policy, clock) {
+        Err(Failed) => ConnEnd::WriteFault,
+        Ok(pause) => close(link, pause),
+    }
+}
+
+/// Serves one connection over a board, which nobody else changes.
+pub fn serve_conn<L: Link, C: Clock>(
+    alloc: Global,
+    link: &mut L,
+    framer: &mut Framer,
+    board: &mut Board,
+    policy: &Policy,
+    clock: &C,
+) -> ConnEnd
+    ensures conversation { (es : List PlainEntry) → IsRegisterOf board.old.register es → (fs : List PlainEntry) × IsRegisterOf board.new.register fs
+        × HasConversation (alone board.old.register.rooms policy.now (C.states clock.now)) (standing es 0 0)
+        (known (L.taken link.old) (L.left link.old) (L.written link.old)) result (L.has_ended link.new)
+        (known (L.taken link.new) (L.left link.new) (L.written link.new)) (standing fs 0 0) }
+    ensures fault { (result ≡ ReadFault) ⊎ (result ≡ WriteFault) → HasRisen (L.Source.faults link.old) (L.Source.faults link.new) }
+    ensures told { result ≡ Closed → L.Source.faults link.new ≡ L.Source.faults link.old }
+    ensures ends { (result ≡ Closed) ⊎ (result ≡ ReadFault) ⊎ (result ≡ WriteFault) }
+{
+    serve(alloc, link, framer, board, policy, clock)
+}

@@ -1,0 +1,20 @@
+//! One HTTP connection over a register: lookups, the published files, and the desk.
+#![tactic(auto)]
+
+mod answers;
+mod ask;
+mod backend;
+mod board_backend;
+mod connection;
+mod line;
+mod lookup;
+mod path;
+mod receive;
+mod reply;
+#[cfg(test)]
+mod tests;
+
+pub use ask::Ask;
+pub use backend::{Backend, Fault};
+pub use connection::{serve, serve_conn};
+pub use lookup::Lookup;

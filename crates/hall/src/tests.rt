@@ -1,0 +1,1055 @@
+//! Whole connections, byte for byte: what is written to each for what comes, in one piece and in single bytes.
+ghost use Rattle.std.specs.Prelude.{◌≡◌};
+
+use crate::{Backend, Fault, serve, serve_conn};
+use board::{Answer, Board, Lens};
+use link_face::{FailingSink, FailingSource, FixedDay, Joined, MemSink, MemSource};
+use policy_table::Policy;
+use reg_entry::{Name, Reply, Request, Rooms};
+use std::alloc::{AllocError, Global};
+use std::test::Fail;
+use wire_http::{ConnEnd, Framer};
+
+const POLICY: &[u8] = b"registry = \"exreg\"\nquarantine_days = 30\nhold_days = 365\n\
+    hostmasters = { local = \"k-local-0001\" }\n[zone]\nmname = \"ns1.exreg.example\"\nrname = \"hostmaster.exreg.example\"\n\
+    ttl = 172800\nrefresh = 7200\nretry = 1800\nexpire = 604800\nminimum = 3600\nservers = [\"ns1.exreg.example\"]\n[ipv4]\n\
+    allocated = { least = 20, most = 32, cap = 4294967296, percent = 0, kinds = [\"lir\"] }\n\
+    assigned = { least = 20, most = 32, cap = 4294967296, kinds = [\"lir\", \"enduser\"] }\n[ipv6]\n\
+    allocated = { least = 20, most = 64, cap = 2305843009213693952, percent = 0, kinds = [\"lir\"] }\n\
+    assigned = { least = 32, most = 64, cap = 2305843009213693952, kinds = [\"lir\", \"enduser\"] }\n[asn]\n\
+    allocated = { least = 1, most = 1024, cap = 4294967296, percent = 0, kinds = [\"lir\"] }\n\
+    assigned = { least = 1, most = 1024, cap = 4294967296, kinds = [\"lir\", \"enduser\"] }\n";
+
+/// The messages of one connection, and the reply to each. The last one ends it.
+const EACH_KIND: &str = "POST /desk HTTP/1.1\r\n\
+    Host: r\r\n\
+    Authorization: Bearer k-local-0001\r\n\
+    Content-Length: 20\r\n\
+    \r\n\
+    receive 192.0.2.0/24\x1f\
+    HTTP/1.1 200 OK\r\n\
+    Content-Type: text/plain\r\n\
+    Content-Length: 29\r\n\
+    Register-Serial: 1\r\n\
+    \r\n\
+    ok 1 192.0.2.0 - 192.0.2.255\n\x1e\
+    POST /desk HTTP/1.1\r\n\
+    Host: r\r\n\
+    Authorization: Bearer k-local-0001\r\n\
+    Content-Length: 51\r\n\
+    \r\n\
+    holder ORG-A lir DE \"Alpha Net\" \"noc@alpha.example\"\x1f\
+    HTTP/1.1 200 OK\r\n\
+    Content-Type: text/plain\r\n\
+    Content-Length: 7\r\n\
+    Register-Serial: 2\r\n\
+    \r\n\
+    ok 2 -\n\x1e\
+    POST /desk HTTP/1.1\r\n\
+    Host: r\r\n\
+    Authorization: Bearer k-local-0001\r\n\
+    Content-Length: 33\r\n\
+    \r\n\
+    delegate ipv4 /26 allocated ORG-A\x1f\
+    HTTP/1.1 200 OK\r\n\
+    Content-Type: text/plain\r\n\
+    Content-Length: 28\r\n\
+    Register-Serial: 3\r\n\
+    \r\n\
+    ok 3 192.0.2.0 - 192.0.2.63\n\x1e\
+    GET /ip/192.0.2.1 HTTP/1.1\r\n\
+    Host: r\r\n\
+    \r\n\x1f\
+    HTTP/1.1 200 OK\r\n\
+    Content-Type: application/rdap+json\r\n\
+    Content-Length: 546\r\n\
+    Register-Serial: 3\r\n\
+    \r\n\
+    {\"country\":\"DE\",\"endAddress\":\"192.0.2.63\",\"entities\":[{\"handle\":\"ORG-A\",\"objectClassName\":\"entity\",\"roles\":[\"registrant\"],\"vcardArray\":[\"vcard\",[[\"version\",{},\"text\",\"4.0\"],[\"fn\",{},\"text\",\"Alpha Net\"],[\"kind\",{},\"text\",\"org\"],[\"email\",{},\"text\",\"noc@alpha.example\"]]]}],\"events\":[{\"eventAction\":\"registration\",\"eventDate\":\"2024-03-01T00:00:00Z\"}],\"handle\":\"192.0.2.0 - 192.0.2.63\",\"ipVersion\":\"v4\",\"name\":\"ORG-A\",\"objectClassName\":\"ip network\",\"rdapConformance\":[\"rdap_level_0\"],\"startAddress\":\"192.0.2.0\",\"status\":[\"active\"],\"type\":\"ALLOCATED\"}\x1e\
+    GET /ip/192.0.2.1 HTTP/1.1\r\n\
+    Host: r\r\n\
+    Register-At-Least: 4\r\n\
+    \r\n\x1f\
+    HTTP/1.1 409 Conflict\r\n\
+    Content-Type: application/rdap+json\r\n\
+    Content-Length: 116\r\n\
+    Register-Serial: 3\r\n\
+    \r\n\
+    {\"description\":[\"the register has 3 entries\"],\"errorCode\":409,\"rdapConformance\":[\"rdap_level_0\"],\"title\":\"Conflict\"}\x1e\
+    GET /ip/192.0.2.1 HTTP/1.1\r\n\
+    Host: r\r\n\
+    Register-At-Least: 3\r\n\
+    \r\n\x1f\
+    HTTP/1.1 200 OK\r\n\
+    Content-Type: application/rdap+json\r\n\
+    Content-Length: 546\r\n\
+    Register-Serial: 3\r\n\
+    \r\n\
+    {\"country\":\"DE\",\"endAddress\":\"192.0.2.63\",\"entities\":[{\"handle\":\"ORG-A\",\"objectClassName\":\"entity\",\"roles\":[\"registrant\"],\"vcardArray\":[\"vcard\",[[\"version\",{},\"text\",\"4.0\"],[\"fn\",{},\"text\",\"Alpha Net\"],[\"kind\",{},\"text\",\"org\"],[\"email\",{},\"text\",\"noc@alpha.example\"]]]}],\"events\":[{\"eventAction\":\"registration\",\"eventDate\":\"2024-03-01T00:00:00Z\"}],\"handle\":\"192.0.2.0 - 192.0.2.63\",\"ipVersion\":\"v4\",\"name\":\"ORG-A\",\"objectClassName\":\"ip network\",\"rdapConformance\":[\"rdap_level_0\"],\"startAddress\":\"192.0.2.0\",\"status\":[\"active\"],\"type\":\"ALLOCATED\"}\x1e\
+    HEAD /ip/192.0.2.1 HTTP/1.1\r\n\
+    Host: r\r\n\
+    \r\n\x1f\
+    HTTP/1.1 200 OK\r\n\
+    Content-Type: application/rdap+json\r\n\
+    Content-Length: 546\r\n\
+    Register-Serial: 3\r\n\
+    \r\n\x1e\
+    GET /ip/192.0.2.77 HTTP/1.1\r\n\
+    Host: r\r\n\
+    \r\n\x1f\
+    HTTP/1.1 404 Not Found\r\n\
+    Content-Type: application/rdap+json\r\n\
+    Content-Length: 105\r\n\
+    Register-Serial: 3\r\n\
+    \r\n\
+    {\"description\":[\"no such object\"],\"errorCode\":404,\"rdapConformance\":[\"rdap_level_0\"],\"title\":\"Not Found\"}\x1e\
+    GET /ip/192.0.02.1 HTTP/1.1\r\n\
+    Host: r\r\n\
+    \r\n\x1f\
+    HTTP/1.1 400 Bad Request\r\n\
+    Content-Type: application/rdap+json\r\n\
+    Content-Length: 108\r\n\
+    \r\n\
+    {\"description\":[\"malformed query\"],\"errorCode\":400,\"rdapConformance\":[\"rdap_level_0\"],\"title\":\"Bad Request\"}\x1e\
+    GET /ip/2001%3Adb8%3A%3A HTTP/1.1\r\n\
+    Host: r\r\n\
+    \r\n\x1f\
+    HTTP/1.1 404 Not Found\r\n\
+    Content-Type: application/rdap+json\r\n\
+    Content-Length: 105\r\n\
+    Register-Serial: 3\r\n\
+    \r\n\
+    {\"description\":[\"no such object\"],\"errorCode\":404,\"rdapConformance\":[\"rdap_level_0\"],\"title\":\"Not Found\"}\x1e\
+    GET /ip/192.0.2.77/25 HTTP/1.1\r\n\
+    Host: r\r\n\
+    \r\n\x1f\
+    HTTP/1.1 404 Not Found\r\n\
+    Content-Type: application/rdap+json\r\n\
+    Content-Length: 105\r\n\
+    Register-Serial: 3\r\n\
+    \r\n\
+    {\"description\":[\"no such object\"],\"errorCode\":404,\"rdapConformance\":[\"rdap_level_0\"],\"title\":\"Not Found\"}\x1e\
+    GET /%69p/192.0.2.1/26?x=/y HTTP/1.1\r\n\
+    Host: r\r\n\
+    \r\n\x1f\
+    HTTP/1.1 200 OK\r\n\
+    Content-Type: application/rdap+json\r\n\
+    Content-Length: 546\r\n\
+    Register-Serial: 3\r\n\
+    \r\n\
+    {\"country\":\"DE\",\"endAddress\":\"192.0.2.63\",\"entities\":[{\"handle\":\"ORG-A\",\"objectClassName\":\"entity\",\"roles\":[\"registrant\"],\"vcardArray\":[\"vcard\",[[\"version\",{},\"text\",\"4.0\"],[\"fn\",{},\"text\",\"Alpha Net\"],[\"kind\",{},\"text\",\"org\"],[\"email\",{},\"text\",\"noc@alpha.example\"]]]}],\"events\":[{\"eventAction\":\"registration\",\"eventDate\":\"2024-03-01T00:00:00Z\"}],\"handle\":\"192.0.2.0 - 192.0.2.63\",\"ipVersion\":\"v4\",\"name\":\"ORG-A\",\"objectClassName\":\"ip network\",\"rdapConformance\":[\"rdap_level_0\"],\"startAddress\":\"192.0.2.0\",\"status\":[\"active\"],\"type\":\"ALLOCATED\"}\x1e\
+    GET /ip HTTP/1.1\r\n\
+    Host: r\r\n\
+    \r\n\x1f\
+    HTTP/1.1 400 Bad Request\r\n\
+    Content-Type: application/rdap+json\r\n\
+    Content-Length: 108\r\n\
+    \r\n\
+    {\"description\":[\"malformed query\"],\"errorCode\":400,\"rdapConformance\":[\"rdap_level_0\"],\"title\":\"Bad Request\"}\x1e\
+    GET /ip/192.0.2.1/26/x HTTP/1.1\r\n\
+    Host: r\r\n\
+    \r\n\x1f\
+    HTTP/1.1 400 Bad Request\r\n\
+    Content-Type: application/rdap+json\r\n\
+    Content-Length: 108\r\n\
+    \r\n\
+    {\"description\":[\"malformed query\"],\"errorCode\":400,\"rdapConformance\":[\"rdap_level_0\"],\"title\":\"Bad Request\"}\x1e\
+    GET /ip/1111111111111111111111111111111111111111111111111111111111111111111111 HTTP/1.1\r\n\
+    Host: r\r\n\
+    \r\n\x1f\
+    HTTP/1.1 400 Bad Request\r\n\
+    Content-Type: application/rdap+json\r\n\
+    Content-Length: 108\r\n\
+    \r\n\
+    {\"description\":[\"malformed query\"],\"errorCode\":400,\"rdapConformance\":[\"rdap_level_0\"],\"title\":\"Bad Request\"}\x1e\
+    GET /ip/192.0.2.1/1111111111111111111111111111111111111111111111111111111111111111111111 HTTP/1.1\r\n\
+    Host: r\r\n\
+    \r\n\x1f\
+    HTTP/1.1 400 Bad Request\r\n\
+    Content-Type: application/rdap+json\r\n\
+    Content-Length: 108\r\n\
+    \r\n\
+    {\"description\":[\"malformed query\"],\"errorCode\":400,\"rdapConformance\":[\"rdap_level_0\"],\"title\":\"Bad Request\"}\x1e\
+    GET /aaaaaaaaaaaaaaaaaaaaaaaaaaaaaaaaaaaaaaaaaaaaaaaaaaaaaaaaaaaaaaaaaaaaaa HTTP/1.1\r\n\
+    Host: r\r\n\
+    \r\n\x1f\
+    HTTP/1.1 404 Not Found\r\n\
+    Content-Type: application/rdap+json\r\n\
+    Content-Length: 105\r\n\
+    \r\n\
+    {\"description\":[\"no such object\"],\"errorCode\":404,\"rdapConformance\":[\"rdap_level_0\"],\"title\":\"Not Found\"}\x1e\
+    GET /help HTTP/1.1\r\n\
+    Host: r\r\n\
+    \r\n\x1f\
+    HTTP/1.1 200 OK\r\n\
+    Content-Type: application/rdap+json\r\n\
+    Content-Length: 113\r\n\
+    Register-Serial: 3\r\n\
+    \r\n\
+    {\"notices\":[{\"description\":[\"RDAP lookups of this registry\"],\"title\":\"Help\"}],\"rdapConformance\":[\"rdap_level_0\"]}\x1e\
+    HEAD /help HTTP/1.1\r\n\
+    Host: r\r\n\
+    \r\n\x1f\
+    HTTP/1.1 200 OK\r\n\
+    Content-Type: application/rdap+json\r\n\
+    Content-Length: 113\r\n\
+    Register-Serial: 3\r\n\
+    \r\n\x1e\
+    GET /help/x HTTP/1.1\r\n\
+    Host: r\r\n\
+    \r\n\x1f\
+    HTTP/1.1 400 Bad Request\r\n\
+    Content-Type: application/rdap+json\r\n\
+    Content-Length: 108\r\n\
+    \r\n\
+    {\"description\":[\"malformed query\"],\"errorCode\":400,\"rdapConformance\":[\"rdap_level_0\"],\"title\":\"Bad Request\"}\x1e\
+    GET /autnum/64496 HTTP/1.1\r\n\
+    Host: r\r\n\
+    \r\n\x1f\
+    HTTP/1.1 404 Not Found\r\n\
+    Content-Type: application/rdap+json\r\n\
+    Content-Length: 105\r\n\
+    Register-Serial: 3\r\n\
+    \r\n\
+    {\"description\":[\"no such object\"],\"errorCode\":404,\"rdapConformance\":[\"rdap_level_0\"],\"title\":\"Not Found\"}\x1e\
+    GET /autnum/AS64496 HTTP/1.1\r\n\
+    Host: r\r\n\
+    \r\n\x1f\
+    HTTP/1.1 400 Bad Request\r\n\
+    Content-Type: application/rdap+json\r\n\
+    Content-Length: 108\r\n\
+    \r\n\
+    {\"description\":[\"malformed query\"],\"errorCode\":400,\"rdapConformance\":[\"rdap_level_0\"],\"title\":\"Bad Request\"}\x1e\
+    GET /stats HTTP/1.1\r\n\
+    Host: r\r\n\
+    \r\n\x1f\
+    HTTP/1.1 200 OK\r\n\
+    Content-Type: text/plain\r\n\
+    Content-Length: 201\r\n\
+    Register-Serial: 3\r\n\
+    \r\n\
+    2|exreg|3|2|20240301|20240301|+0000\n\
+    exreg|*|asn|*|0|summary\n\
+    exreg|*|ipv4|*|2|summary\n\
+    exreg|*|ipv6|*|0|summary\n\
+    exreg|DE|ipv4|192.0.2.0|64|20240301|allocated|ORG-A\n\
+    exreg||ipv4|192.0.2.64|192||available|\n\x1e\
+    GET /stats/x HTTP/1.1\r\n\
+    Host: r\r\n\
+    \r\n\x1f\
+    HTTP/1.1 400 Bad Request\r\n\
+    Content-Type: application/rdap+json\r\n\
+    Content-Length: 108\r\n\
+    \r\n\
+    {\"description\":[\"malformed query\"],\"errorCode\":400,\"rdapConformance\":[\"rdap_level_0\"],\"title\":\"Bad Request\"}\x1e\
+    GET /zones/192.in-addr.arpa HTTP/1.1\r\n\
+    Host: r\r\n\
+    \r\n\x1f\
+    HTTP/1.1 200 OK\r\n\
+    Content-Type: text/plain\r\n\
+    Content-Length: 143\r\n\
+    Register-Serial: 3\r\n\
+    \r\n\
+    $ORIGIN 192.in-addr.arpa.\n\
+    $TTL 172800\n\
+    @ IN SOA ns1.exreg.example. hostmaster.exreg.example. 3 7200 1800 604800 3600\n\
+    @ IN NS ns1.exreg.example.\n\x1e\
+    GET /zones/193.in-addr.arpa HTTP/1.1\r\n\
+    Host: r\r\n\
+    \r\n\x1f\
+    HTTP/1.1 404 Not Found\r\n\
+    Content-Type: application/rdap+json\r\n\
+    Content-Length: 105\r\n\
+    Register-Serial: 3\r\n\
+    \r\n\
+    {\"description\":[\"no such object\"],\"errorCode\":404,\"rdapConformance\":[\"rdap_level_0\"],\"title\":\"Not Found\"}\x1e\
+    GET /zones/192.in-addr.arpa. HTTP/1.1\r\n\
+    Host: r\r\n\
+    \r\n\x1f\
+    HTTP/1.1 400 Bad Request\r\n\
+    Content-Type: application/rdap+json\r\n\
+    Content-Length: 108\r\n\
+    \r\n\
+    {\"description\":[\"malformed query\"],\"errorCode\":400,\"rdapConformance\":[\"rdap_level_0\"],\"title\":\"Bad Request\"}\x1e\
+    GET /zones HTTP/1.1\r\n\
+    Host: r\r\n\
+    \r\n\x1f\
+    HTTP/1.1 400 Bad Request\r\n\
+    Content-Type: application/rdap+json\r\n\
+    Content-Length: 108\r\n\
+    \r\n\
+    {\"description\":[\"malformed query\"],\"errorCode\":400,\"rdapConformance\":[\"rdap_level_0\"],\"title\":\"Bad Request\"}\x1e\
+    GET /zones/192.in-addr.arpa/x HTTP/1.1\r\n\
+    Host: r\r\n\
+    \r\n\x1f\
+    HTTP/1.1 400 Bad Request\r\n\
+    Content-Type: application/rdap+json\r\n\
+    Content-Length: 108\r\n\
+    \r\n\
+    {\"description\":[\"malformed query\"],\"errorCode\":400,\"rdapConformance\":[\"rdap_level_0\"],\"title\":\"Bad Request\"}\x1e\
+    GET / HTTP/1.1\r\n\
+    Host: r\r\n\
+    \r\n\x1f\
+    HTTP/1.1 404 Not Found\r\n\
+    Content-Type: application/rdap+json\r\n\
+    Content-Length: 105\r\n\
+    \r\n\
+    {\"description\":[\"no such object\"],\"errorCode\":404,\"rdapConformance\":[\"rdap_level_0\"],\"title\":\"Not Found\"}\x1e\
+    GET /entity/ORG-A HTTP/1.1\r\n\
+    Host: r\r\n\
+    \r\n\x1f\
+    HTTP/1.1 404 Not Found\r\n\
+    Content-Type: application/rdap+json\r\n\
+    Content-Length: 105\r\n\
+    \r\n\
+    {\"description\":[\"no such object\"],\"errorCode\":404,\"rdapConformance\":[\"rdap_level_0\"],\"title\":\"Not Found\"}\x1e\
+    GET ip HTTP/1.1\r\n\
+    Host: r\r\n\
+    \r\n\x1f\
+    HTTP/1.1 400 Bad Request\r\n\
+    Content-Type: application/rdap+json\r\n\
+    Content-Length: 108\r\n\
+    \r\n\
+    {\"description\":[\"malformed query\"],\"errorCode\":400,\"rdapConformance\":[\"rdap_level_0\"],\"title\":\"Bad Request\"}\x1e\
+    OPTIONS * HTTP/1.1\r\n\
+    Host: r\r\n\
+    \r\n\x1f\
+    HTTP/1.1 400 Bad Request\r\n\
+    Content-Type: application/rdap+json\r\n\
+    Content-Length: 108\r\n\
+    \r\n\
+    {\"description\":[\"malformed query\"],\"errorCode\":400,\"rdapConformance\":[\"rdap_level_0\"],\"title\":\"Bad Request\"}\x1e\
+    POST /ip/192.0.2.1 HTTP/1.1\r\n\
+    Host: r\r\n\
+    Content-Length: 0\r\n\
+    \r\n\x1f\
+    HTTP/1.1 405 Method Not Allowed\r\n\
+    Content-Type: application/rdap+json\r\n\
+    Content-Length: 122\r\n\
+    Allow: GET, HEAD\r\n\
+    \r\n\
+    {\"description\":[\"method not served here\"],\"errorCode\":405,\"rdapConformance\":[\"rdap_level_0\"],\"title\":\"Method Not Allowed\"}\x1e\
+    PUT /stats HTTP/1.1\r\n\
+    Host: r\r\n\
+    \r\n\x1f\
+    HTTP/1.1 405 Method Not Allowed\r\n\
+    Content-Type: application/rdap+json\r\n\
+    Content-Length: 122\r\n\
+    Allow: GET, HEAD\r\n\
+    \r\n\
+    {\"description\":[\"method not served here\"],\"errorCode\":405,\"rdapConformance\":[\"rdap_level_0\"],\"title\":\"Method Not Allowed\"}\x1e\
+    GET /desk HTTP/1.1\r\n\
+    Host: r\r\n\
+    \r\n\x1f\
+    HTTP/1.1 405 Method Not Allowed\r\n\
+    Content-Type: application/rdap+json\r\n\
+    Content-Length: 122\r\n\
+    Allow: POST\r\n\
+    \r\n\
+    {\"description\":[\"method not served here\"],\"errorCode\":405,\"rdapConformance\":[\"rdap_level_0\"],\"title\":\"Method Not Allowed\"}\x1e\
+    HEAD /desk HTTP/1.1\r\n\
+    Host: r\r\n\
+    \r\n\x1f\
+    HTTP/1.1 405 Method Not Allowed\r\n\
+    Content-Type: application/rdap+json\r\n\
+    Content-Length: 122\r\n\
+    Allow: POST\r\n\
+    \r\n\x1e\
+    POST /desk/x HTTP/1.1\r\n\
+    Host: r\r\n\
+    Authorization: Bearer k-local-0001\r\n\
+    Content-Length: 3\r\n\
+    \r\n\
+    due\x1f\
+    HTTP/1.1 400 Bad Request\r\n\
+    Content-Type: application/rdap+json\r\n\
+    Content-Length: 108\r\n\
+    \r\n\
+    {\"description\":[\"malformed query\"],\"errorCode\":400,\"rdapConformance\":[\"rdap_level_0\"],\"title\":\"Bad Request\"}\x1e\
+    POST /desk HTTP/1.1\r\n\
+    Host: r\r\n\
+    Content-Length: 3\r\n\
+    \r\n\
+    due\x1f\
+    HTTP/1.1 401 Unauthorized\r\n\
+    Content-Type: application/rdap+json\r\n\
+    Content-Length: 105\r\n\
+    WWW-Authenticate: Bearer realm=\"desk\"\r\n\
+    \r\n\
+    {\"description\":[\"no such key\"],\"errorCode\":401,\"rdapConformance\":[\"rdap_level_0\"],\"title\":\"Unauthorized\"}\x1e\
+    POST /desk HTTP/1.1\r\n\
+    Host: r\r\n\
+    Authorization: Bearer k-local-0002\r\n\
+    Content-Length: 3\r\n\
+    \r\n\
+    due\x1f\
+    HTTP/1.1 401 Unauthorized\r\n\
+    Content-Type: application/rdap+json\r\n\
+    Content-Length: 105\r\n\
+    WWW-Authenticate: Bearer realm=\"desk\"\r\n\
+    \r\n\
+    {\"description\":[\"no such key\"],\"errorCode\":401,\"rdapConformance\":[\"rdap_level_0\"],\"title\":\"Unauthorized\"}\x1e\
+    POST /desk HTTP/1.1\r\n\
+    Host: r\r\n\
+    Authorization: Bearer k-local-0001\r\n\
+    Authorization: Bearer k-local-0001\r\n\
+    Content-Length: 3\r\n\
+    \r\n\
+    due\x1f\
+    HTTP/1.1 401 Unauthorized\r\n\
+    Content-Type: application/rdap+json\r\n\
+    Content-Length: 105\r\n\
+    WWW-Authenticate: Bearer realm=\"desk\"\r\n\
+    \r\n\
+    {\"description\":[\"no such key\"],\"errorCode\":401,\"rdapConformance\":[\"rdap_level_0\"],\"title\":\"Unauthorized\"}\x1e\
+    POST /desk HTTP/1.1\r\n\
+    Host: r\r\n\
+    Authorization: bearer k-local-0001\r\n\
+    Content-Length: 3\r\n\
+    \r\n\
+    due\x1f\
+    HTTP/1.1 200 OK\r\n\
+    Content-Type: text/plain\r\n\
+    Content-Length: 23\r\n\
+    \r\n\
+    refused N1 Malformed 1\n\x1e\
+    POST /desk HTTP/1.1\r\n\
+    Host: r\r\n\
+    Authorization: Basic k-local-0001\r\n\
+    Content-Length: 3\r\n\
+    \r\n\
+    due\x1f\
+    HTTP/1.1 401 Unauthorized\r\n\
+    Content-Type: application/rdap+json\r\n\
+    Content-Length: 105\r\n\
+    WWW-Authenticate: Bearer realm=\"desk\"\r\n\
+    \r\n\
+    {\"description\":[\"no such key\"],\"errorCode\":401,\"rdapConformance\":[\"rdap_level_0\"],\"title\":\"Unauthorized\"}\x1e\
+    POST /desk HTTP/1.1\r\n\
+    Host: r\r\n\
+    Authorization: Bearer k-local-0001\r\n\
+    Content-Length: 12\r\n\
+    \r\n\
+    day 20240301\x1f\
+    HTTP/1.1 200 OK\r\n\
+    Content-Type: text/plain\r\n\
+    Content-Length: 23\r\n\
+    \r\n\
+    refused N1 Malformed 1\n\x1e\
+    POST /desk HTTP/1.1\r\n\
+    Host: r\r\n\
+    Authorization: Bearer k-local-0001\r\n\
+    Content-Length: 0\r\n\
+    \r\n\x1f\
+    HTTP/1.1 200 OK\r\n\
+    Content-Type: text/plain\r\n\
+    Content-Length: 23\r\n\
+    \r\n\
+    refused N1 Malformed 1\n\x1e\
+    POST /desk HTTP/1.1\r\n\
+    Host: r\r\n\
+    Authorization: Bearer k-local-0001\r\n\
+    Content-Length: 35\r\n\
+    \r\n\
+    delegate ipv4 /33 allocated ORG-A\r\n\x1f\
+    HTTP/1.1 200 OK\r\n\
+    Content-Type: text/plain\r\n\
+    Content-Length: 24\r\n\
+    \r\n\
+    refused N1 Malformed 15\n\x1e\
+    POST /desk HTTP/1.1\r\n\
+    Host: r\r\n\
+    Authorization: Bearer k-local-0001\r\n\
+    Content-Length: 18\r\n\
+    \r\n\
+    reserve 192.0.2.5\n\x1f\
+    HTTP/1.1 200 OK\r\n\
+    Content-Type: text/plain\r\n\
+    Content-Length: 34\r\n\
+    Register-Serial: 3\r\n\
+    \r\n\
+    refused N12 WrongStatus allocated\n\x1e\
+    POST /desk HTTP/1.1\r\n\
+    Host: r\r\n\
+    Authorization: Bearer k-local-0001\r\n\
+    Content-Length: 19\r\n\
+    \r\n\
+    reserve 192.0.2.64\n\x1f\
+    HTTP/1.1 200 OK\r\n\
+    Content-Type: text/plain\r\n\
+    Content-Length: 29\r\n\
+    Register-Serial: 4\r\n\
+    \r\n\
+    ok 4 192.0.2.64 - 192.0.2.64\n\x1e\
+    GET /ip/192.0.2.1 HTTP/1.1\r\n\
+    Host: r\r\n\
+    Register-At-Least: 4\r\n\
+    Register-At-Least: 4\r\n\
+    \r\n\x1f\
+    HTTP/1.1 400 Bad Request\r\n\
+    Content-Type: application/rdap+json\r\n\
+    Content-Length: 108\r\n\
+    \r\n\
+    {\"description\":[\"malformed query\"],\"errorCode\":400,\"rdapConformance\":[\"rdap_level_0\"],\"title\":\"Bad Request\"}\x1e\
+    GET /ip/192.0.2.1 HTTP/1.1\r\n\
+    Host: r\r\n\
+    Register-At-Least: 04\r\n\
+    \r\n\x1f\
+    HTTP/1.1 400 Bad Request\r\n\
+    Content-Type: application/rdap+json\r\n\
+    Content-Length: 108\r\n\
+    \r\n\
+    {\"description\":[\"malformed query\"],\"errorCode\":400,\"rdapConformance\":[\"rdap_level_0\"],\"title\":\"Bad Request\"}\x1e\
+    GET /help HTTP/1.1\r\n\
+    Host: r\r\n\
+    Register-At-Least: 18446744073709551615\r\n\
+    \r\n\x1f\
+    HTTP/1.1 409 Conflict\r\n\
+    Content-Type: application/rdap+json\r\n\
+    Content-Length: 116\r\n\
+    Register-Serial: 4\r\n\
+    \r\n\
+    {\"description\":[\"the register has 4 entries\"],\"errorCode\":409,\"rdapConformance\":[\"rdap_level_0\"],\"title\":\"Conflict\"}\x1e\
+    GET /help HTTP/1.1\r\n\
+    Host: r\r\n\
+    Connection: keep-alive\r\n\
+    \r\n\x1f\
+    HTTP/1.1 200 OK\r\n\
+    Content-Type: application/rdap+json\r\n\
+    Content-Length: 113\r\n\
+    Register-Serial: 4\r\n\
+    \r\n\
+    {\"notices\":[{\"description\":[\"RDAP lookups of this registry\"],\"title\":\"Help\"}],\"rdapConformance\":[\"rdap_level_0\"]}\x1e\
+    GET /help HTTP/1.1\r\n\
+    Host: r\r\n\
+    Content-Length: 3\r\n\
+    \r\n\
+    abc\x1f\
+    HTTP/1.1 200 OK\r\n\
+    Content-Type: application/rdap+json\r\n\
+    Content-Length: 113\r\n\
+    Register-Serial: 4\r\n\
+    \r\n\
+    {\"notices\":[{\"description\":[\"RDAP lookups of this registry\"],\"title\":\"Help\"}],\"rdapConformance\":[\"rdap_level_0\"]}\x1e\
+    GET /help HTTP/1.1\r\n\
+    Host: r\r\n\
+    Connection: close\r\n\
+    \r\n\x1f\
+    HTTP/1.1 200 OK\r\n\
+    Content-Type: application/rdap+json\r\n\
+    Content-Length: 113\r\n\
+    Register-Serial: 4\r\n\
+    Connection: close\r\n\
+    \r\n\
+    {\"notices\":[{\"description\":[\"RDAP lookups of this registry\"],\"title\":\"Help\"}],\"rdapConformance\":[\"rdap_level_0\"]}";
+
+/// The messages of a connection that asks for a sub-assignment and what is round it.
+const NARROWEST: &str = "POST /desk HTTP/1.1\r\n\
+    Host: r\r\n\
+    Authorization: Bearer k-local-0001\r\n\
+    Content-Length: 20\r\n\
+    \r\n\
+    receive 192.0.2.0/24\x1f\
+    HTTP/1.1 200 OK\r\n\
+    Content-Type: text/plain\r\n\
+    Content-Length: 29\r\n\
+    Register-Serial: 1\r\n\
+    \r\n\
+    ok 1 192.0.2.0 - 192.0.2.255\n\x1e\
+    POST /desk HTTP/1.1\r\n\
+    Host: r\r\n\
+    Authorization: Bearer k-local-0001\r\n\
+    Content-Length: 51\r\n\
+    \r\n\
+    holder ORG-A lir DE \"Alpha Net\" \"noc@alpha.example\"\x1f\
+    HTTP/1.1 200 OK\r\n\
+    Content-Type: text/plain\r\n\
+    Content-Length: 7\r\n\
+    Register-Serial: 2\r\n\
+    \r\n\
+    ok 2 -\n\x1e\
+    POST /desk HTTP/1.1\r\n\
+    Host: r\r\n\
+    Authorization: Bearer k-local-0001\r\n\
+    Content-Length: 33\r\n\
+    \r\n\
+    delegate ipv4 /25 allocated ORG-A\x1f\
+    HTTP/1.1 200 OK\r\n\
+    Content-Type: text/plain\r\n\
+    Content-Length: 29\r\n\
+    Register-Serial: 3\r\n\
+    \r\n\
+    ok 3 192.0.2.0 - 192.0.2.127\n\x1e\
+    POST /desk HTTP/1.1\r\n\
+    Host: r\r\n\
+    Authorization: Bearer k-local-0001\r\n\
+    Content-Length: 23\r\n\
+    \r\n\
+    sub 192.0.2.64/26 ORG-A\x1f\
+    HTTP/1.1 200 OK\r\n\
+    Content-Type: text/plain\r\n\
+    Content-Length: 30\r\n\
+    Register-Serial: 4\r\n\
+    \r\n\
+    ok 4 192.0.2.64 - 192.0.2.127\n\x1e\
+    GET /ip/192.0.2.77/26 HTTP/1.1\r\n\
+    Host: r\r\n\
+    \r\n\x1f\
+    HTTP/1.1 200 OK\r\n\
+    Content-Type: application/rdap+json\r\n\
+    Content-Length: 594\r\n\
+    Register-Serial: 4\r\n\
+    \r\n\
+    {\"country\":\"DE\",\"endAddress\":\"192.0.2.127\",\"entities\":[{\"handle\":\"ORG-A\",\"objectClassName\":\"entity\",\"roles\":[\"registrant\"],\"vcardArray\":[\"vcard\",[[\"version\",{},\"text\",\"4.0\"],[\"fn\",{},\"text\",\"Alpha Net\"],[\"kind\",{},\"text\",\"org\"],[\"email\",{},\"text\",\"noc@alpha.example\"]]]}],\"events\":[{\"eventAction\":\"registration\",\"eventDate\":\"2024-03-01T00:00:00Z\"}],\"handle\":\"192.0.2.64 - 192.0.2.127\",\"ipVersion\":\"v4\",\"name\":\"ORG-A\",\"objectClassName\":\"ip network\",\"parentHandle\":\"192.0.2.0 - 192.0.2.127\",\"rdapConformance\":[\"rdap_level_0\"],\"startAddress\":\"192.0.2.64\",\"status\":[\"active\"],\"type\":\"SUB-ASSIGNED\"}\x1e\
+    GET /ip/192.0.2.77/25 HTTP/1.1\r\n\
+    Host: r\r\n\
+    \r\n\x1f\
+    HTTP/1.1 200 OK\r\n\
+    Content-Type: application/rdap+json\r\n\
+    Content-Length: 548\r\n\
+    Register-Serial: 4\r\n\
+    \r\n\
+    {\"country\":\"DE\",\"endAddress\":\"192.0.2.127\",\"entities\":[{\"handle\":\"ORG-A\",\"objectClassName\":\"entity\",\"roles\":[\"registrant\"],\"vcardArray\":[\"vcard\",[[\"version\",{},\"text\",\"4.0\"],[\"fn\",{},\"text\",\"Alpha Net\"],[\"kind\",{},\"text\",\"org\"],[\"email\",{},\"text\",\"noc@alpha.example\"]]]}],\"events\":[{\"eventAction\":\"registration\",\"eventDate\":\"2024-03-01T00:00:00Z\"}],\"handle\":\"192.0.2.0 - 192.0.2.127\",\"ipVersion\":\"v4\",\"name\":\"ORG-A\",\"objectClassName\":\"ip network\",\"rdapConformance\":[\"rdap_level_0\"],\"startAddress\":\"192.0.2.0\",\"status\":[\"active\"],\"type\":\"ALLOCATED\"}\x1e\
+    GET /ip/192.0.2.0/24 HTTP/1.1\r\n\
+    Host: r\r\n\
+    \r\n\x1f\
+    HTTP/1.1 404 Not Found\r\n\
+    Content-Type: application/rdap+json\r\n\
+    Content-Length: 105\r\n\
+    Register-Serial: 4\r\n\
+    \r\n\
+    {\"description\":[\"no such object\"],\"errorCode\":404,\"rdapConformance\":[\"rdap_level_0\"],\"title\":\"Not Found\"}\x1e\
+    GET /ip/192.0.02.1 HTTP/1.1\r\n\
+    Host: r\r\n\
+    \r\n\x1f\
+    HTTP/1.1 400 Bad Request\r\n\
+    Content-Type: application/rdap+json\r\n\
+    Content-Length: 108\r\n\
+    \r\n\
+    {\"description\":[\"malformed query\"],\"errorCode\":400,\"rdapConformance\":[\"rdap_level_0\"],\"title\":\"Bad Request\"}\x1e\
+    GET /ip/2001%3Adb8%3A%3A HTTP/1.1\r\n\
+    Host: r\r\n\
+    \r\n\x1f\
+    HTTP/1.1 404 Not Found\r\n\
+    Content-Type: application/rdap+json\r\n\
+    Content-Length: 105\r\n\
+    Register-Serial: 4\r\n\
+    \r\n\
+    {\"description\":[\"no such object\"],\"errorCode\":404,\"rdapConformance\":[\"rdap_level_0\"],\"title\":\"Not Found\"}";
+
+/// Connections of an empty register: what comes, and all that is written.
+const ENDS: &str = "\x1f\
+    \x1e\
+    GET /help\x1f\
+    HTTP/1.1 400 Bad Request\r\n\
+    Content-Type: application/rdap+json\r\n\
+    Content-Length: 108\r\n\
+    Connection: close\r\n\
+    \r\n\
+    {\"description\":[\"malformed query\"],\"errorCode\":400,\"rdapConformance\":[\"rdap_level_0\"],\"title\":\"Bad Request\"}\x1e\
+    GET /help HTTP/1.1\r\n\
+    Host: r\r\n\x1f\
+    HTTP/1.1 400 Bad Request\r\n\
+    Content-Type: application/rdap+json\r\n\
+    Content-Length: 108\r\n\
+    Connection: close\r\n\
+    \r\n\
+    {\"description\":[\"malformed query\"],\"errorCode\":400,\"rdapConformance\":[\"rdap_level_0\"],\"title\":\"Bad Request\"}\x1e\
+    \x00\x01\x02\r\n\
+    \r\n\x1f\
+    HTTP/1.1 400 Bad Request\r\n\
+    Content-Type: application/rdap+json\r\n\
+    Content-Length: 108\r\n\
+    Connection: close\r\n\
+    \r\n\
+    {\"description\":[\"malformed query\"],\"errorCode\":400,\"rdapConformance\":[\"rdap_level_0\"],\"title\":\"Bad Request\"}\x1e\
+    GET /help HTTP/2.0\r\n\
+    \r\n\x1f\
+    HTTP/1.1 400 Bad Request\r\n\
+    Content-Type: application/rdap+json\r\n\
+    Content-Length: 108\r\n\
+    Connection: close\r\n\
+    \r\n\
+    {\"description\":[\"malformed query\"],\"errorCode\":400,\"rdapConformance\":[\"rdap_level_0\"],\"title\":\"Bad Request\"}\x1e\
+    GET /help HTTP/1.1\r\n\
+    Transfer-Encoding: chunked\r\n\
+    \r\n\
+    0\r\n\
+    \r\n\x1f\
+    HTTP/1.1 400 Bad Request\r\n\
+    Content-Type: application/rdap+json\r\n\
+    Content-Length: 108\r\n\
+    Connection: close\r\n\
+    \r\n\
+    {\"description\":[\"malformed query\"],\"errorCode\":400,\"rdapConformance\":[\"rdap_level_0\"],\"title\":\"Bad Request\"}\x1e\
+    GET /help HTTP/1.1\r\n\
+    Content-Length: 1\r\n\
+    content-length: 1\r\n\
+    \r\n\
+    a\x1f\
+    HTTP/1.1 400 Bad Request\r\n\
+    Content-Type: application/rdap+json\r\n\
+    Content-Length: 108\r\n\
+    Connection: close\r\n\
+    \r\n\
+    {\"description\":[\"malformed query\"],\"errorCode\":400,\"rdapConformance\":[\"rdap_level_0\"],\"title\":\"Bad Request\"}\x1e\
+    GET /help HTTP/1.1\r\n\
+    Content-Length: 4294967296\r\n\
+    \r\n\x1f\
+    HTTP/1.1 400 Bad Request\r\n\
+    Content-Type: application/rdap+json\r\n\
+    Content-Length: 108\r\n\
+    Connection: close\r\n\
+    \r\n\
+    {\"description\":[\"malformed query\"],\"errorCode\":400,\"rdapConformance\":[\"rdap_level_0\"],\"title\":\"Bad Request\"}\x1e\
+    POST /desk HTTP/1.1\r\n\
+    Authorization: Bearer k-local-0001\r\n\
+    \r\n\x1f\
+    HTTP/1.1 411 Length Required\r\n\
+    Content-Type: application/rdap+json\r\n\
+    Content-Length: 114\r\n\
+    Connection: close\r\n\
+    \r\n\
+    {\"description\":[\"no content length\"],\"errorCode\":411,\"rdapConformance\":[\"rdap_level_0\"],\"title\":\"Length Required\"}\x1e\
+    POST /desk HTTP/1.1\r\n\
+    Authorization: Bearer k-local-0001\r\n\
+    Content-Length: 4097\r\n\
+    \r\n\x1f\
+    HTTP/1.1 413 Content Too Large\r\n\
+    Content-Type: application/rdap+json\r\n\
+    Content-Length: 119\r\n\
+    Connection: close\r\n\
+    \r\n\
+    {\"description\":[\"body over 4096 bytes\"],\"errorCode\":413,\"rdapConformance\":[\"rdap_level_0\"],\"title\":\"Content Too Large\"}\x1e\
+    POST /desk HTTP/1.1\r\n\
+    Authorization: Bearer k-local-0001\r\n\
+    Content-Length: 4\r\n\
+    \r\n\
+    due\x1f\
+    HTTP/1.1 400 Bad Request\r\n\
+    Content-Type: application/rdap+json\r\n\
+    Content-Length: 108\r\n\
+    Connection: close\r\n\
+    \r\n\
+    {\"description\":[\"malformed query\"],\"errorCode\":400,\"rdapConformance\":[\"rdap_level_0\"],\"title\":\"Bad Request\"}\x1e\
+    GET /help HTTP/1.0\r\n\
+    \r\n\
+    GET /stats HTTP/1.1\r\n\
+    \r\n\x1f\
+    HTTP/1.1 200 OK\r\n\
+    Content-Type: application/rdap+json\r\n\
+    Content-Length: 113\r\n\
+    Register-Serial: 0\r\n\
+    Connection: close\r\n\
+    \r\n\
+    {\"notices\":[{\"description\":[\"RDAP lookups of this registry\"],\"title\":\"Help\"}],\"rdapConformance\":[\"rdap_level_0\"]}\x1e\
+    HEAD /stats HTTP/1.0\n\
+    \n\x1f\
+    HTTP/1.1 200 OK\r\n\
+    Content-Type: text/plain\r\n\
+    Content-Length: 110\r\n\
+    Register-Serial: 0\r\n\
+    Connection: close\r\n\
+    \r\n\x1e\
+    \r\n\
+    \r\n\
+    GET /zones/10.in-addr.arpa HTTP/1.1\n\
+    connection: CLOSE\n\
+    \n\
+    GET /help HTTP/1.1\n\
+    \n\x1f\
+    HTTP/1.1 404 Not Found\r\n\
+    Content-Type: application/rdap+json\r\n\
+    Content-Length: 105\r\n\
+    Register-Serial: 0\r\n\
+    Connection: close\r\n\
+    \r\n\
+    {\"description\":[\"no such object\"],\"errorCode\":404,\"rdapConformance\":[\"rdap_level_0\"],\"title\":\"Not Found\"}\x1e\
+    GET /x HTTP/1.1\r\n\
+    Connection: close\r\n\
+    Connection: close\r\n\
+    \r\n\
+    GET /help HTTP/1.1\r\n\
+    Host: r\r\n\x1f\
+    HTTP/1.1 404 Not Found\r\n\
+    Content-Type: application/rdap+json\r\n\
+    Content-Length: 105\r\n\
+    \r\n\
+    {\"description\":[\"no such object\"],\"errorCode\":404,\"rdapConformance\":[\"rdap_level_0\"],\"title\":\"Not Found\"}HTTP/1.1 400 Bad Request\r\n\
+    Content-Type: application/rdap+json\r\n\
+    Content-Length: 108\r\n\
+    Connection: close\r\n\
+    \r\n\
+    {\"description\":[\"malformed query\"],\"errorCode\":400,\"rdapConformance\":[\"rdap_level_0\"],\"title\":\"Bad Request\"}";
+
+const NO_MEMORY: &[u8] = b"HTTP/1.1 503 Service Unavailable\r\n\
+    Content-Type: application/rdap+json\r\n\
+    Content-Length: 110\r\n\
+    \r\n\
+    {\"description\":[\"no memory\"],\"errorCode\":503,\"rdapConformance\":[\"rdap_level_0\"],\"title\":\"Service Unavailable\"}";
+
+const NO_SNAPSHOT: &[u8] = b"HTTP/1.1 503 Service Unavailable\r\n\
+    Content-Type: application/rdap+json\r\n\
+    Content-Length: 112\r\n\
+    \r\n\
+    {\"description\":[\"no snapshot\"],\"errorCode\":503,\"rdapConformance\":[\"rdap_level_0\"],\"title\":\"Service Unavailable\"}";
+
+const DISK_FAILED: &[u8] = b"HTTP/1.1 500 Internal Server Error\r\n\
+    Content-Type: application/rdap+json\r\n\
+    Content-Length: 118\r\n\
+    \r\n\
+    {\"description\":[\"the disk failed\"],\"errorCode\":500,\"rdapConformance\":[\"rdap_level_0\"],\"title\":\"Internal Server Error\"}";
+
+const ROOMS: Rooms = Rooms {
+    pieces: 16,
+    holders: 4,
+    subs: 4,
+    reverse: 4,
+    entries: 16,
+    window: 4,
+};
+
+/// 2024-03-01.
+const DAY: u32 = 19783;
+
+/// What comes and what is written on one connection.
+#[derive(Drop)]
+struct Talk {
+    input: Vec<u8>,
+    output: Vec<u8>,
+}
+
+/// The messages of a table, one behind the other, and the replies to them.
+fn joined(alloc: Global, table: &str) -> Result<Talk, AllocError> {
+    let mut input = Vec::new(alloc);
+    let mut output = Vec::new(alloc);
+    for row in table.split('\x1e') {
+        if let Some((message, reply)) = row.split_once('\x1f') {
+            input.extend_from_slice(message.as_bytes())?;
+            output.extend_from_slice(reply.as_bytes())?;
+        }
+    }
+    Ok(Talk { input, output })
+}
+
+/// Where a connection is tried: over a register of its own, with so many bytes in each piece, and with calls of the link that
+/// fail.
+#[derive(Clone, Copy)]
+struct Trial<'a> {
+    input: &'a [u8],
+    piece: usize,
+    reads: &'a [u64],
+    writes: &'a [u64],
+}
+
+/// How a connection ended, and what was written.
+#[derive(Drop)]
+struct Outcome {
+    end: ConnEnd,
+    written: Vec<u8>,
+}
+
+fn written_of(alloc: Global, bytes: &[u8], end: ConnEnd) -> Result<Outcome, AllocError> {
+    let mut written = Vec::new(alloc);
+    written.extend_from_slice(bytes)?;
+    Ok(Outcome { end, written })
+}
+
+/// Serves a connection over an empty register.
+fn served(alloc: Global, trial: &Trial<'_>) -> Result<Option<Outcome>, AllocError> {
+    if trial.piece == 0 {
+        return Ok(None);
+    }
+    let mut framer = Framer::new(alloc)?;
+    let Ok(policy) = Policy::read(alloc, POLICY) else {
+        return Ok(None);
+    };
+    let mut link = Joined {
+        source: FailingSource::new(MemSource::in_pieces(trial.input, trial.piece), trial.reads),
+        sink: FailingSink::new(MemSink::new(alloc), trial.writes, 10),
+    };
+    // Behind the board there is one end.
+    let mut board = Board::with_room(alloc, ROOMS)?;
+    let end = serve_conn(
+        alloc,
+        &mut link,
+        &mut framer,
+        &mut board,
+        &policy,
+        &FixedDay(DAY),
+    );
+    written_of(alloc, link.sink.bytes(), end).map(Some)
+}
+
+/// Whether the connection is closed with just this written, in pieces of so many bytes.
+fn is_closed_with(
+    alloc: Global,
+    input: &[u8],
+    output: &[u8],
+    piece: usize,
+) -> Result<bool, AllocError> {
+    let trial = Trial {
+        input,
+        piece,
+        reads: &[],
+        writes: &[],
+    };
+    let Some(outcome) = served(alloc, &trial)? else {
+        return Ok(false);
+    };
+    Ok(outcome.end == ConnEnd::Closed && outcome.written.as_slice() == output)
+}
+
+#[test]
+fn each_kind_of_message_is_answered(rt: HostRuntime) -> Result<(), Fail> {
+    let talk = joined(rt.alloc(), EACH_KIND)?;
+    for piece in [1, 7, usize::MAX] {
+        assert!(rt;
+            is_closed_with(rt.alloc(), &talk.input, &talk.output, piece)?,
+            "in pieces of {piece}"
+        );
+    }
+    Ok(())
+}
+
+#[test]
+fn narrowest_registration_is_found(rt: HostRuntime) -> Result<(), Fail> {
+    let talk = joined(rt.alloc(), NARROWEST)?;
+    for piece in [1, usize::MAX] {
+        assert!(rt;
+            is_closed_with(rt.alloc(), &talk.input, &talk.output, piece)?,
+            "in pieces of {piece}"
+        );
+    }
+    Ok(())
+}
+
+/// The first connection that doesn't end as the table says.
+fn first_other_end(alloc: Global) -> Result<Option<&'static str>, AllocError> {
+    for row in ENDS.split('\x1e') {
+        let Some((input, output)) = row.split_once('\x1f') else {
+            return Ok(Some(row));
+        };
+        for piece in [1, usize::MAX] {
+            if !is_closed_with(alloc, input.as_bytes(), output.as_bytes(), piece)? {
+                return Ok(Some(input));
+            }
+        }
+    }
+    Ok(None)
+}
+
+#[test]
+fn each_end_is_told(rt: HostRuntime) -> Result<(), Fail> {
+    assert_eq!(rt; first_other_end(rt.alloc())?, None);
+    Ok(())
+}
+
+/// How many bytes are written before this call of the link fails, in pieces of a hundred bytes.
+fn written_before(
+    alloc: Global,
+    reads: &[u64],
+    writes: &[u64],
+) -> Result<Option<(ConnEnd, usize)>, AllocError> {
+    let talk = joined(alloc, NARROWEST)?;
+    let trial = Trial {
+        input: &talk.input,
+        piece: 100,
+        reads,
+        writes,
+    };
+    let Some(outcome) = served(alloc, &trial)? else {
+        return Ok(None);
+    };
+    if !talk.output.starts_with(&outcome.written) {
+        return Ok(None);
+    }
+    Ok(Some((outcome.end, outcome.written.len())))
+}
+
+#[test]
+fn failed_link_has_a_front_of_the_replies(rt: HostRuntime) -> Result<(), Fail> {
+    let alloc = rt.alloc();
+    assert_eq!(rt;
+        written_before(alloc, &[0], &[])?,
+        Some((ConnEnd::ReadFault, 0))
+    );
+    assert_eq!(rt;
+        written_before(alloc, &[2], &[])?,
+        Some((ConnEnd::ReadFault, 114))
+    );
+    assert_eq!(rt;
+        written_before(alloc, &[], &[0])?,
+        Some((ConnEnd::WriteFault, 10))
+    );
+    assert_eq!(rt;
+        written_before(alloc, &[], &[1])?,
+        Some((ConnEnd::WriteFault, 124))
+    );
+    Ok(())
+}
+
+/// A register of which every call has this fault.
+#[derive(Drop)]
+struct Broken(Fault);
+
+impl Backend for Broken {
+    ghost use Rattle.std.specs.Prelude.{◌≡◌, ⊤, []};
+    ghost use Rattle.std.proofs.Common.{◌∙◌, sym, append-nil};
+    ghost use Rattle.reg_entry.specs.Operations.{empty_board};
+
+    ghost rooms = { λ _. record { pieces = 1; holders = 1; subs = 1; reverse = 1; entries = 1; window = 1 } };
+
+    ghost stands = { λ _ _. ⊤ };
+
+    ghost goes_on = { λ es fs. fs ≡ es };
+
+    ghost keeps_entries = { λ es fs same. ([], same ∙ sym (append-nil es)) };
+
+    ghost may_fail = { λ _. ⊤ };
+
+    fn look<L: Lens>(&mut self, _alloc: Global, _lens: &L) -> Result<Answer, Fault> {
+        Err(self.0)
+    }
+
+    fn submit(
+        &mut self,
+        _policy: &Policy,
+        _day: u32,
+        _who: &Name,
+        _request: &Request,
+    ) -> Result<(Reply, u64), Fault> {
+        Err(self.0)
+    }
+}
+
+const ASKED: &[u8] = b"GET /stats HTTP/1.1\r\nHost: r\r\n\r\n\
+    POST /desk HTTP/1.1\r\nAuthorization: Bearer k-local-0001\r\nContent-Length: 20\r\n\r\nreceive 192.0.2.0/24";
+
+/// Whether a lookup and a request are both answered by this reply.
+fn is_told(alloc: Global, fault: Fault, reply: &[u8]) -> Result<bool, AllocError> {
+    let mut backend = Broken(fault);
+    let mut framer = Framer::new(alloc)?;
+    let Ok(policy) = Policy::read(alloc, POLICY) else {
+        return Ok(false);
+    };
+    let mut link = Joined {
+        source: MemSource::new(ASKED),
+        sink: MemSink::new(alloc),
+    };
+    let clock = FixedDay(DAY);
+    let end = serve(alloc, &mut link, &mut framer, &mut backend, &policy, &clock);
+    let mut twice = Vec::new(alloc);
+    twice.extend_from_slice(reply)?;
+    twice.extend_from_slice(reply)?;
+    Ok(end == ConnEnd::Closed && link.sink.bytes() == twice.as_slice())
+}
+
+#[test]
+fn faults_are_told(rt: HostRuntime) -> Result<(), Fail> {
+    let alloc = rt.alloc();
+    assert!(rt; is_told(alloc, Fault::NoMemory, NO_MEMORY)?);
+    assert!(rt; is_told(alloc, Fault::Shut, NO_SNAPSHOT)?);
+    assert!(rt; is_told(alloc, Fault::DiskFailed, DISK_FAILED)?);
+    Ok(())
+}
