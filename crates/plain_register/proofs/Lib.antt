@@ -1,0 +1,12 @@
+pub mod Missing
+pub mod Places
+pub mod Neighbours
+pub mod Parts
+pub mod FoundPieces
+pub mod Known
+pub mod Rounding
+pub mod Hundredths
+pub mod PieceSizes
+pub mod PolicyRows
+pub mod Refusals
+pub mod Counting
