@@ -7,3 +7,4 @@ pub mod Cutting
 pub mod Covering
 pub mod Least
 pub mod Totals
+pub mod Fewness

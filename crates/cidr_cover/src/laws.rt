@@ -1,5 +1,5 @@
 //! Laws over covers and cuts, each proved as the contract of a function that does nothing.
-ghost use Rattle.std.specs.Prelude.{◌≡◌, ◌*◌, ◌≤◌, ◌↔◌, Contains, List, length, sum_by};
+ghost use Rattle.std.specs.Prelude.{◌≡◌, ◌*◌, ◌^◌, ◌≤◌, ◌↔◌, Contains, List, length, sum_by};
 ghost use Rattle.num_range.specs.Space.{width_of};
 ghost use Rattle.num_range.specs.Range.{PlainRange, IsRange, size_of};
 ghost use Rattle.num_range.specs.Cover.{least_cover, reverse_cuts};
@@ -27,4 +27,9 @@ pub fn cover_is_least()
 pub fn cuts_are_widest()
     ensures cuts { (r b : PlainRange) → Contains (reverse_cuts r) b ↔ IsReverseCut r b }
     ensures rises { (r : PlainRange) → IsRising (reverse_cuts r) }
+{}
+
+/// A range has no more than 2^24 reverse cuts: 2^16 for each block of its least cover.
+pub fn cuts_are_few()
+    ensures { (r : PlainRange) → length (reverse_cuts r) ≤ 2 ^ 24 }
 {}
