@@ -39,6 +39,7 @@ keeps_promises c h =
     let legal_at : (k : ℕ) → IsLegal c.rooms (take k c.journal) = λ k. legal_prefix (empty_register c.rooms) c.journal k h.legal in
     record {
       legal = h.legal;
+      fronts = legal_at;
       published = h.published;
       seen = h.seen;
       fed = h.fed;

@@ -29,8 +29,9 @@ AreEvents (e ∷ es) = IsEvent e × AreEvents es
 -- ---- at every moment
 
 pub record KeepsPromises (c : PlainCourse) : Type 0 where
-  -- each entry might come next after those before it
+  -- each entry might come next after those before it; so the first entries are a legal list, however many
   pub legal : IsLegal c.rooms c.journal
+  pub fronts : (k : ℕ) → IsLegal c.rooms (take k c.journal)
   -- what a pass has seen is published, and what is published is in the journal
   pub published : c.published ≤ length c.journal
   pub seen : (pass : ℕ) → seen_by c pass ≤ c.published

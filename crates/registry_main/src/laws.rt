@@ -1,8 +1,12 @@
 //! What holds of every register that a script builds, whatever legal entries were there before it, each proved as the
 //! contract of a function that does nothing.
-ghost use Rattle.std.specs.Prelude.{◌≡◌, ℕ, ◌<◌, List};
+ghost use Rattle.std.specs.Prelude.{◌≡◌, ℕ, ◌<◌, List, take};
 ghost use Rattle.num_range.specs.declared.space.Space.{Space};
 ghost use Rattle.num_range.specs.Range.{PlainRange, IsRange};
+ghost use Rattle.reg_entry.specs.declared.rooms.Rooms.{Rooms as TheRooms};
+ghost use Rattle.course_core.specs.declared.event.Event.{Event};
+ghost use Rattle.course_core.specs.Course.{new_course, after_events, register_at};
+ghost use Rattle.course_core.specs.Promises.{AreEvents};
 ghost use Rattle.reg_entry.specs.Blocks.{least_block, IsLeastBlock};
 ghost use Rattle.reg_entry.specs.Entry.{PlainEntry};
 ghost use Rattle.reg_entry.specs.Next.{IsLegal};
@@ -15,6 +19,7 @@ ghost use Rattle.delegated_ext.specs.Records.{record_lines};
 ghost use Rattle.reverse_zone.specs.Delegated.{AreDelegated};
 ghost use Rattle.registry_main.specs.Session.{rooms, entries_after, register_over};
 
+use course_core::laws::courses_keep_their_promises;
 use delegated_ext::laws::records_conserve;
 use desk_lang::laws::lines_are_valid;
 use reg_entry::laws::{block_is_least, overlap_is_least};
@@ -85,4 +90,16 @@ pub fn answers_are_least()
     legal_entries_are_whole();
     block_is_least();
     overlap_is_least();
+}
+
+/// Whatever happens to a register and its readers, the statistics file after each entry loses no number and tells none
+/// twice: its records add up to the pool.
+pub fn courses_have_statistics()
+    ensures { (rooms : TheRooms) (p : PlainPolicy) (passes mirrors k : ℕ) (events : List Event) → IsPolicy p → AreEvents events
+        → AreOfReceived (take k (after_events (new_course rooms p passes mirrors) events).journal)
+        (record_lines (register_at (after_events (new_course rooms p passes mirrors) events) k)) }
+{
+    courses_keep_their_promises();
+    legal_entries_go_on();
+    records_conserve();
 }
