@@ -1,0 +1,4 @@
+pub mod PieceChanges
+pub mod EntryChanges
+pub mod TouchedBy
+pub mod ReachedBoard
