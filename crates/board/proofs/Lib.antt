@@ -6,3 +6,6 @@ pub mod FreeBlocks
 pub mod Steps
 pub mod PoolSizes
 pub mod Meeting
+pub mod Noting
+pub mod Touching
+pub mod Taking

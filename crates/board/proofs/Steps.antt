@@ -304,6 +304,13 @@ pub edited_count : (request : Request) (day : ℕ) (hs : List (Holder × ℕ)) (
 edited_count request day hs holder n is e =
     e ∙ sym (length_map _ hs) ∙ ap (λ (q : Request). length (holders_after q day hs)) (sym is)
 
+-- an edited holder adds none
+pub same_length : (request : Request) (day : ℕ) (hs : List (Holder × ℕ)) → ((holder : Holder) → request ≡ AddHolder holder → ⊥)
+    → length hs ≡ length (holders_after request day hs)
+same_length (AddHolder holder) day hs a = absurd (a holder refl)
+same_length (EditHolder holder) day hs a = sym (length_map _ hs)
+same_length request day hs a = refl
+
 -- ---- what is asked of the pieces
 
 not_available : (s : Status) → is_delegated s ≡ true → is_available s ≡ false

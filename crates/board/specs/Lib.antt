@@ -3,3 +3,5 @@ pub mod FoundPiece
 pub mod Starts
 pub mod Free
 pub mod Conserved
+pub mod Noted
+pub mod Painting

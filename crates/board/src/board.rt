@@ -1,31 +1,28 @@
 //! The register of a list of entries, kept so that no request walks over all of it.
-ghost use Rattle.std.specs.Prelude.{◌≡◌, ℕ, ◌+◌, ◌<◌, ◌≤◌, ◌^◌, ◌==◌, ◌++◌, ◌∷◌, if◌then◌else◌, true, [], None, length, IsSome, IfSome, IfOk};
+ghost use Rattle.std.specs.Prelude.{◌≡◌, ◌≤◌, ◌^◌, ◌==◌, ◌↔◌, ◌++◌, ◌∷◌, if◌then◌else◌, [], find, option_copied, IsSome, IfOk};
 ghost use Rattle.reg_entry.specs.Rooms.{AreRooms};
 ghost use Rattle.reg_laws.specs.Narrowest.{looked_up};
 
-use crate::books::{add_sub, card_over, change_reverse, edit, exchange, size, use_less, use_more};
+use crate::books::{
+    change_holders, change_holdings, change_pieces, change_reverse, change_subs,
+};
+use crate::operations::Operations;
 use holder_book::HolderBook;
 use holding_book::HoldingBook;
 use num_range::{Range, Space};
 use piece_book::PieceBook;
-use reg_entry::{Entry, Found, Piece, Request, Rooms, Servers, SubCard};
+use op_feed::laws::{
+    entries_reach_boards, next_changes, reached_boards_are_whole, reached_boards_number_operations,
+};
+use reg_entry::{Entry, Found, Op, Piece, Rooms, Servers, SubCard};
 use reg_laws::holders::next_entries_know_holders;
-use reg_laws::holdings::{
-    holdings_are_bounded, next_entries_change_holdings, next_entries_take_what_is_held,
-};
 use reg_laws::narrowest::narrowest_is_looked_up;
-use reg_laws::next::next_entries_have_covers_and_cards;
-use reg_laws::painting::{
-    next_entries_can_be_painted, next_entries_join_equal_pieces,
-    next_entries_split_delegated_pieces,
-};
 use reg_laws::reached::{
     entries_reach_registers, last_cards_change_inside_covers, reached_registers_are_whole,
     reached_registers_conserve, reached_registers_count,
 };
 use reg_laws::reverses::next_entries_fit_reverses;
 use reg_laws::subs::next_entries_fit_subs;
-use reg_laws::usage::{next_entries_change_use, next_entries_take_what_is_used, use_is_bounded};
 use std::alloc::{AllocError, Global};
 use std::marker::Model;
 use sub_book::RangeBook;
@@ -42,19 +39,18 @@ pub struct Board {
     entries: u64,
     first_day: u32,
     last_day: u32,
+    operations: Operations,
 }
 
 impl Model for Board {
-    ghost use Rattle.std.specs.Prelude.{[]};
     ghost use Rattle.reg_entry.specs.Operations.{PlainBoard};
-    ghost use Rattle.board.specs.Kept.{register_of, IsKeptIn};
+    ghost use Rattle.board.specs.Kept.{register_of, board_of, IsKeptBoard};
 
     ghost Value = { PlainBoard };
 
-    // No operations are kept yet.
-    ghost view = { λ b. record { register = register_of b.rooms b.entries b.first_day b.last_day b.pieces b.holders b.subs b.reverse; serial = 0; kept = [] } };
+    ghost view = { λ b. board_of (register_of b.rooms b.entries b.first_day b.last_day b.pieces b.holders b.subs b.reverse) b.operations };
 
-    ghost invariant = { λ b. IsKeptIn (register_of b.rooms b.entries b.first_day b.last_day b.pieces b.holders b.subs b.reverse) b.pieces.room b.holders.room b.subs.room b.reverse.room b.holdings };
+    ghost invariant = { λ b. IsKeptBoard (register_of b.rooms b.entries b.first_day b.last_day b.pieces b.holders b.subs b.reverse) b.pieces.room b.holders.room b.subs.room b.reverse.room b.holdings b.operations };
 }
 
 /// The day of the first entry, once there was one more on a day.
@@ -86,11 +82,12 @@ fn found(range: &Range, sub: Option<(Range, SubCard)>, piece: Option<Piece>) -> 
 
 impl Board {
     ghost use Rattle.reg_entry.specs.Register.{after_entry};
-    ghost use Rattle.reg_entry.specs.Operations.{empty_board};
+    ghost use Rattle.reg_entry.specs.Operations.{empty_board, board_after_entry};
+    ghost use Rattle.op_feed.specs.ReachedBoard.{IsReachedBoard, first_kept};
     ghost use Rattle.num_range.specs.Range.{IsRange};
     ghost use Rattle.reg_entry.specs.Sums.{held, allocated, used, narrowest};
     ghost use Rattle.reg_entry.specs.Next.{IsNextEntry};
-    ghost use Rattle.reg_entry.specs.Whole.{IsWholeRegister};
+    ghost use Rattle.reg_entry.specs.Whole.{IsWhole, IsWholeRegister};
     ghost use Rattle.std.specs.Prelude.{List};
     ghost use Rattle.reg_entry.specs.Entry.{PlainEntry};
     ghost use Rattle.board.specs.Conserved.{IsConservedBy, ChangesCards};
@@ -111,14 +108,17 @@ impl Board {
             entries: 0,
             first_day: 0,
             last_day: 0,
+            operations: Operations::with_window(alloc, rooms.window)?,
         })
     }
 
-    /// Takes in the next entry. Where legal entries gave the register, they and this one give the new one; of each number
-    /// that lies outside the entry's cover the last card stays, and of every number where the entry cuts or joins pieces.
+    /// Takes in the next entry, whose operations follow those before. Where legal entries gave the register, they and this
+    /// one give the new one; of each number that lies outside the entry's cover the last card stays, and of every number
+    /// where the entry cuts or joins pieces.
     pub fn apply(&mut self, e: &Entry)
         requires next { IsNextEntry self.old.register e.now }
         ensures register { self.new.register ≡ after_entry self.old.register e.now }
+        ensures board { self.new ≡ board_after_entry self.old e.now }
         ensures entries { (es : List PlainEntry) → IsRegisterOf self.old.register es
             → IsRegisterOf self.new.register (es ++ e.now ∷ []) × ChangesCards es e.now }
     {
@@ -128,64 +128,57 @@ impl Board {
         self.take_in(e);
     }
 
-    /// Changes the books as the entry says.
+    /// Changes the books as the entry says, and notes its operations.
     fn take_in(&mut self, e: &Entry)
         requires next { IsNextEntry self.old.register e.now }
-        ensures { self.new.register ≡ after_entry self.old.register e.now }
+        ensures { self.new ≡ board_after_entry self.old e.now }
     {
-        // Laws: what the next entry asks of the books, and what it keeps.
+        // Laws: what the next entry asks of the books, what it changes, and what it keeps.
         entries_reach_registers();
         reached_registers_are_whole();
-        next_entries_have_covers_and_cards();
         next_entries_know_holders();
-        next_entries_can_be_painted();
-        next_entries_split_delegated_pieces();
-        next_entries_join_equal_pieces();
-        next_entries_change_holdings();
-        next_entries_take_what_is_held();
-        holdings_are_bounded();
         next_entries_fit_subs();
         next_entries_fit_reverses();
-        next_entries_change_use();
-        next_entries_take_what_is_used();
-        use_is_bounded();
+        entries_reach_boards();
+        reached_boards_are_whole();
+        reached_boards_number_operations();
+        next_changes();
+        change_holdings(&mut self.holdings, &self.pieces, &self.subs, e);
+        let touched = change_pieces(&mut self.pieces, e);
+        self.operations
+            .note_entry(&self.holders, &self.subs, &self.reverse, e, &touched);
+        change_reverse(&mut self.reverse, &e.request);
+        change_subs(&mut self.subs, &self.holders, e);
+        change_holders(&mut self.holders, e);
         self.first_day = first_day_after(self.entries, self.first_day, e.day);
         self.last_day = e.day;
         self.entries += 1;
-        change_reverse(&mut self.reverse, &e.request);
-        match &e.request {
-            Request::AddHolder { holder } => {
-                self.holders.add(holder, e.day);
-                self.holdings.add();
-            }
-            Request::EditHolder { holder } => edit(&mut self.holders, holder, e.day),
-            Request::Split { at } => {
-                self.pieces.split(*at);
-            }
-            Request::Join { at } => {
-                self.pieces.join(*at);
-            }
-            Request::SubAssign { range, handle } => {
-                let card = card_over(&self.pieces, range);
-                use_more(&mut self.holdings, range, &card, size(range));
-                add_sub(&mut self.subs, &self.holders, range, handle, e.day);
-            }
-            Request::SubReturn { range } => {
-                let card = card_over(&self.pieces, range);
-                use_less(&mut self.holdings, range, &card, size(range));
-                self.subs.take_out(range);
-            }
-            _ => {
-                if let Some(card) = &e.card {
-                    if let Some(range) = &e.cover {
-                        let former = card_over(&self.pieces, range);
-                        let used = self.subs.numbers_inside(range);
-                        exchange(&mut self.holdings, range, &former, card, used);
-                        self.pieces.lay(range, card);
-                    }
-                }
-            }
+    }
+
+    /// The serials of the first and the last operation that is kept. Where none is, the first is the one behind the last:
+    /// (1, 0) before any operation.
+    pub fn kept(&self) -> (u64, u64)
+        ensures first { result.0 ≡ first_kept self.now }
+        ensures last { result.1 ≡ self.now.serial }
+    {
+        // A law: the serials are within their type.
+        reached_boards_number_operations();
+        self.operations.serials()
+    }
+
+    /// The operation of this serial, or nothing where it isn't kept.
+    pub fn op(&self, serial: u64) -> Option<&Op>
+        ensures found { option_copied result ≡ find (λ op. op.serial == serial) self.now.kept }
+        ensures kept { IsSome (option_copied result) ↔ ((first_kept self.now ≤ serial) × (serial ≤ self.now.serial)) }
+    {
+        // A law: the serials count up by one.
+        reached_boards_number_operations();
+        self.keeps_operations();
+        let (first, _) = self.kept();
+        if serial < first {
+            return None;
         }
+        self.operations.at(serial - first)
     }
 
     /// How many numbers of the space are delegated to the holder of this number: 0 where there is no such holder.
@@ -278,6 +271,16 @@ impl Board {
         let _ = &self.rooms;
     }
 
+    /// Tells callers that the board is that of a legal list of entries, with the last of their operations, and so it is whole.
+    pub fn keeps_operations(&self)
+        ensures reached { IsReachedBoard self.now }
+        ensures whole { IsWhole self.now }
+    {
+        // A law, for `whole`.
+        reached_boards_are_whole();
+        let _ = &self.rooms;
+    }
+
     /// Tells callers that no number is lost or held twice: the register is that of a legal list of entries; each number has
     /// the card of the last entry that painted it and lies in just one piece, or in none where none painted it; the numbers
     /// that lie in a piece are those that were received, and each space has just as many.
@@ -287,14 +290,6 @@ impl Board {
         // Laws.
         reached_registers_conserve();
         reached_registers_count();
-        let _ = &self.rooms;
-    }
-
-    /// Tells that no operations are counted or kept yet.
-    pub fn keeps_no_operations(&self)
-        ensures serial { self.now.serial ≡ 0 }
-        ensures kept { self.now.kept ≡ [] }
-    {
         let _ = &self.rooms;
     }
 

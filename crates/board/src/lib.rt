@@ -9,6 +9,7 @@ mod early_rules;
 mod late_rules;
 mod lens;
 mod next;
+mod operations;
 mod pooled;
 mod reverse_conditions;
 mod sub_conditions;

@@ -5,8 +5,8 @@ ghost use Rattle.reg_entry.specs.Rooms.{AreRooms};
 use crate::{Board, Found};
 use num_range::{Number, Range, Space};
 use reg_entry::{
-    Card, Cc, Delegation, Entry, Handle, Holder, Host, Kind, Name, Refusal, Request, Rooms,
-    Servers, Status, Text,
+    Act, Card, Cc, Delegation, Entry, Handle, Holder, Host, Kind, Name, Object, Refusal, Request,
+    Rooms, Servers, Status, Text,
 };
 use std::alloc::{AllocError, Global};
 use std::test::Fail;
@@ -44,6 +44,12 @@ const FEW: Rooms = Rooms {
     reverse: 1,
     entries: 6,
     window: 1,
+};
+
+/// All operations are kept.
+const WIDE: Rooms = Rooms {
+    window: 20,
+    ..ROOMS
 };
 
 /// An entry, but for its number and who asked.
@@ -422,6 +428,22 @@ fn filling() -> [(Option<Step>, bool); 10] {
     ]
 }
 
+/// All is delegated, and gets name servers that are set twice, a sub that goes back, and a holder with another name: what
+/// is as it was before has no operation.
+fn changes() -> [(Option<Step>, bool); 9] {
+    [
+        (delegated(DAY, 24, 0, 255), true),
+        (reversed(0, 255, ONE), true),
+        (reversed(0, 255, OTHER), true),
+        (reversed(0, 255, OTHER), true),
+        (edited(b"ORG-A", b"Alpha Net"), true),
+        (edited(b"ORG-A", b"Alpha"), true),
+        (sub_assigned(32, 63), true),
+        (sub_returned(32, 63), true),
+        (returned(0, 255, DUE), true),
+    ]
+}
+
 /// The first step that isn't as its row says, behind those with which each register begins.
 fn wrong_after(board: &mut Board, rows: &[(Option<Step>, bool)]) -> Option<usize> {
     first_wrong(board, &begun()).or_else(|| first_wrong(board, rows))
@@ -473,6 +495,78 @@ fn octets(range: &Range) -> Option<Octets> {
         range.first().checked_sub(NET)?,
         range.last().checked_sub(NET)?,
     ))
+}
+
+/// An operation by its serial, with the octets of its piece, sub or cut.
+type Noted = (u64, Act, Option<Octets>);
+
+fn object_octets(object: &Object) -> Option<Octets> {
+    match object {
+        Object::Org { .. } => None,
+        Object::Block { range, .. } | Object::Sub { range, .. } => octets(range),
+        Object::Cut { block, .. } => octets(block),
+    }
+}
+
+fn has_noted(board: &Board, row: &Noted) -> bool {
+    let (serial, act, octets) = *row;
+    match board.op(serial) {
+        Some(op) => op.act == act && object_octets(&op.object) == octets,
+        None => false,
+    }
+}
+
+fn have_noted(board: &Board, rows: &[Noted]) -> bool {
+    for row in rows {
+        if !has_noted(board, row) {
+            return false;
+        }
+    }
+    true
+}
+
+const BLOCK_OPERATIONS: [Noted; 14] = [
+    (1, Act::Add, Some((0, 255))),
+    (2, Act::Add, None),
+    (3, Act::Del, Some((0, 255))),
+    (4, Act::Add, Some((0, 63))),
+    (5, Act::Add, Some((64, 255))),
+    (6, Act::Del, Some((64, 255))),
+    (7, Act::Add, Some((64, 127))),
+    (8, Act::Add, Some((128, 255))),
+    (9, Act::Add, Some((0, 63))),
+    (10, Act::Add, Some((64, 127))),
+    (11, Act::Del, Some((0, 63))),
+    (12, Act::Del, Some((64, 127))),
+    (13, Act::Del, Some((128, 255))),
+    (14, Act::Add, Some((0, 255))),
+];
+
+/// The key of a piece stays where all of it is delegated. The cuts of what is returned go before the piece is there anew.
+const OTHER_OPERATIONS: [Noted; 8] = [
+    (3, Act::Add, Some((0, 255))),
+    (4, Act::Add, Some((0, 255))),
+    (5, Act::Add, Some((0, 255))),
+    (6, Act::Add, None),
+    (7, Act::Add, Some((32, 63))),
+    (8, Act::Del, Some((32, 63))),
+    (9, Act::Del, Some((0, 255))),
+    (10, Act::Add, Some((0, 255))),
+];
+
+fn notes_blocks(board: &mut Board) -> bool {
+    board.kept() == (1, 0)
+        && wrong_after(board, &releases()).is_none()
+        && board.kept() == (1, 14)
+        && have_noted(board, &BLOCK_OPERATIONS)
+        && board.op(0).is_none()
+        && board.op(15).is_none()
+}
+
+fn notes_others(board: &mut Board) -> bool {
+    wrong_after(board, &changes()).is_none()
+        && board.kept() == (1, 10)
+        && have_noted(board, &OTHER_OPERATIONS)
 }
 
 /// The registration that is found round a range, and the piece that a sub lies in.
@@ -556,6 +650,9 @@ fn blocks_go(board: &mut Board) -> bool {
 fn releases_go(board: &mut Board) -> bool {
     wrong_after(board, &releases()).is_none()
         && piece_at(board, 64) == Some((0, 255, Status::Available))
+        && board.kept() == (14, 14)
+        && board.op(13).is_none()
+        && has_noted(board, &BLOCK_OPERATIONS[13])
 }
 
 fn all_goes_at_once(board: &mut Board) -> bool {
@@ -590,6 +687,8 @@ enum Trial {
     Filling,
     Subs,
     Reverses,
+    BlockOperations,
+    OtherOperations,
 }
 
 fn holds_in(board: &mut Board, trial: Trial) -> bool {
@@ -602,6 +701,8 @@ fn holds_in(board: &mut Board, trial: Trial) -> bool {
         Trial::Filling => filling_goes(board),
         Trial::Subs => subs_go(board),
         Trial::Reverses => keeps_reverses(board) == Some(true),
+        Trial::BlockOperations => notes_blocks(board),
+        Trial::OtherOperations => notes_others(board),
     }
 }
 
@@ -659,5 +760,17 @@ fn subs_are_assigned_found_and_taken_back(rt: HostRuntime) -> Result<(), Fail> {
 #[test]
 fn reverse_entries_are_set_and_taken_out(rt: HostRuntime) -> Result<(), Fail> {
     assert!(rt; holds(rt.alloc(), ROOMS, Trial::Reverses)?);
+    Ok(())
+}
+
+#[test]
+fn operations_of_pieces_are_kept(rt: HostRuntime) -> Result<(), Fail> {
+    assert!(rt; holds(rt.alloc(), WIDE, Trial::BlockOperations)?);
+    Ok(())
+}
+
+#[test]
+fn operations_of_what_an_entry_names_are_kept(rt: HostRuntime) -> Result<(), Fail> {
+    assert!(rt; holds(rt.alloc(), WIDE, Trial::OtherOperations)?);
     Ok(())
 }

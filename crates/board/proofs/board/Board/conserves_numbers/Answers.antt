@@ -6,8 +6,8 @@ use Rattle.board.proofs.board.Board.conserves_numbers.Goals as goal
 
 pub returns : goal.returns
 returns c =
-    let es : List PlainEntry = c.self.invariant.reached.0 in
-    let of = c.self.invariant.reached.1 in
+    let es : List PlainEntry = c.self.invariant.books.reached.0 in
+    let of = c.self.invariant.books.reached.1 in
     let conserve = c.reached_registers_conserve.ensures in
     let count = c.reached_registers_count.ensures in
     subst (λ (b : PlainBoard). (es : List PlainEntry) × IsConservedBy b.register es) c.self.view_is (

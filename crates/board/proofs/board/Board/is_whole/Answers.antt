@@ -5,4 +5,4 @@ use Rattle.board.proofs.board.Board.is_whole.Goals as goal
 
 pub returns-clause-whole : goal.returns-clause-whole
 returns-clause-whole c =
-    subst (λ (b : PlainBoard). IsWholeRegister b.register) c.self.view_is (c.reached_registers_are_whole.ensures _ c.self.invariant.reached)
+    subst (λ (b : PlainBoard). IsWholeRegister b.register) c.self.view_is (c.reached_registers_are_whole.ensures _ c.self.invariant.books.reached)

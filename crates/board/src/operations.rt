@@ -1,0 +1,268 @@
+//! The operations of the entries, of which a board keeps the last.
+ghost use Rattle.std.specs.Prelude.{◌≡◌, ◌+◌, ◌-◌, ◌<◌, ◌≤◌, ◌^◌, [], ◌∷◌, ◌++◌, find, map, length, slice_get, option_copied, IfOk, IfSome};
+ghost use Rattle.std.specs.List.{AllByRecursion, flat_map};
+ghost use Rattle.std.specs.Option.{option_map_or};
+ghost use Rattle.reg_entry.specs.Holders.{handle_of, has_handle};
+ghost use Rattle.reg_entry.specs.Objects.{block_of_piece, blocks_of, sub_of, cuts_of};
+ghost use Rattle.reg_entry.specs.Ranges.{ranges_inside};
+ghost use Rattle.op_feed.specs.PieceChanges.{pieces_gone, pieces_come, piece_changes};
+ghost use Rattle.op_feed.specs.EntryChanges.{dels, adds, edit_changes, server_changes, entry_changes};
+ghost use Rattle.board.specs.Noted.{noted, all_noted, block_changes, HaveHolders};
+
+use cidr_cover::cuts;
+use circular_buffer::HeapCircularBuffer;
+use holder_book::HolderBook;
+use num_range::Range;
+use op_feed::changes;
+use reg_entry::{
+    Act, Entry, Handle, Holder, Object, Op, Piece, Request, Servers, SubCard, Touched,
+};
+use std::alloc::{AllocError, Global};
+use std::marker::Model;
+use sub_book::RangeBook;
+
+/// The last operations, and how many there were in all.
+#[derive(Drop)]
+pub(crate) struct Operations {
+    serial: u64,
+    kept: HeapCircularBuffer<Op>,
+}
+
+impl Model for Operations {
+    ghost use Rattle.board.specs.Noted.{PlainOperations};
+
+    ghost Value = { PlainOperations };
+
+    ghost view = { λ o. record { serial = o.serial; kept = o.kept.items; window = o.kept.capacity } };
+}
+
+impl Operations {
+    /// None yet, and memory for as many as the window says.
+    pub(crate) fn with_window(alloc: Global, window: u32) -> Result<Operations, AllocError>
+        ensures { IfOk result (λ operations. operations ≡ record { serial = 0; kept = []; window = window }) }
+    {
+        Ok(Operations {
+            serial: 0,
+            kept: HeapCircularBuffer::with_capacity(alloc, window as usize)?,
+        })
+    }
+
+    /// The serials of the first and the last operation that is kept.
+    pub(crate) fn serials(&self) -> (u64, u64)
+        requires bound { self.now.serial + 1 < 2 ^ 64 }
+        requires few { length self.now.kept ≤ self.now.serial }
+        ensures first { result.0 ≡ self.now.serial + 1 - length self.now.kept }
+        ensures last { result.1 ≡ self.now.serial }
+    {
+        (self.serial + 1 - self.kept.len() as u64, self.serial)
+    }
+
+    /// The operation of a serial that comes so many places behind the first.
+    pub(crate) fn at(&self, place: u64) -> Option<&Op>
+        ensures { option_copied result ≡ slice_get self.now.kept place }
+    {
+        self.kept.get(place as usize)
+    }
+
+    /// Notes one operation more. Where there is no room for it the first one goes.
+    fn note(&mut self, act: Act, object: Object)
+        requires { self.old.serial + 1 < 2 ^ 64 }
+        ensures { self.new ≡ noted self.old (act, object) }
+    {
+        self.serial += 1;
+        self.kept.push_back(Op {
+            serial: self.serial,
+            act,
+            object,
+        });
+    }
+
+    /// Notes the cuts of a reverse entry.
+    fn note_cuts(&mut self, act: Act, range: &Range, servers: &Servers)
+        requires { self.old.serial + length (cuts_of (range.now, servers.now)) < 2 ^ 64 }
+        ensures { self.new ≡ all_noted self.old (map (λ o. (act, o)) (cuts_of (range.now, servers.now))) }
+    {
+        for block in cuts(*range) {
+            let servers = *servers;
+            self.note(act, Object::Cut { block, servers });
+        }
+    }
+
+    /// Notes that the reverse entries inside a range go.
+    fn note_dropped(&mut self, reverse: &RangeBook<Servers>, range: &Range)
+        requires { self.old.serial + length (flat_map cuts_of (ranges_inside reverse.now.ranges range.now)) < 2 ^ 64 }
+        ensures { self.new ≡ all_noted self.old (dels (flat_map cuts_of (ranges_inside reverse.now.ranges range.now))) }
+    {
+        reverse.are_apart();
+        let _first = range.first();
+        for (met, servers) in reverse.walk(range) {
+            if met.inside(range) {
+                self.note_cuts(Act::Del, &met, &servers);
+            }
+        }
+    }
+
+    /// Notes that a range has name servers, where it had none or others.
+    fn note_servers(&mut self, former: &Option<Servers>, range: &Range, servers: &Servers)
+        requires { self.old.serial + length (server_changes range.now former.now servers.now) < 2 ^ 64 }
+        ensures { self.new ≡ all_noted self.old (server_changes range.now former.now servers.now) }
+    {
+        if let Some(former) = former {
+            if servers == former {
+                return;
+            }
+        }
+        self.note_cuts(Act::Add, range, servers);
+    }
+
+    /// Notes a holder's fields, where it had others or had them since another day.
+    fn note_edit(&mut self, former: &Option<(Holder, u32)>, holder: &Holder, day: u32)
+        requires { self.old.serial + length (edit_changes former.now holder.now day) < 2 ^ 64 }
+        ensures { self.new ≡ all_noted self.old (edit_changes former.now holder.now day) }
+    {
+        if let Some((former, former_day)) = former {
+            if holder != former || day != *former_day {
+                let holder = *holder;
+                self.note(Act::Add, Object::Org { holder, day });
+            }
+        }
+    }
+
+    /// Notes that a sub goes.
+    fn note_sub(&mut self, holders: &HolderBook, range: &Range, sub: &Option<SubCard>)
+        requires known { IfSome sub.now (λ card. card.holder < length holders.now.holders) }
+        requires room { self.old.serial + length (option_map_or (λ card. dels (sub_of holders.now.holders (range.now, card) ∷ [])) sub.now []) < 2 ^ 64 }
+        ensures { self.new ≡ all_noted self.old (option_map_or (λ card. dels (sub_of holders.now.holders (range.now, card) ∷ [])) sub.now []) }
+    {
+        if let Some(card) = sub {
+            let (holder, _) = holders.holder(card.holder);
+            let (range, handle, day) = (*range, holder.handle, card.day);
+            self.note(Act::Del, Object::Sub { range, handle, day });
+        }
+    }
+
+    /// Notes what an entry changes in the objects, where these pieces are touched, and the holders, subs and reverse entries
+    /// are still those of the entries before it.
+    pub(crate) fn note_entry(
+        &mut self,
+        holders: &HolderBook,
+        subs: &RangeBook<SubCard>,
+        reverse: &RangeBook<Servers>,
+        entry: &Entry,
+        touched: &Touched,
+    )
+        requires pieces { HaveHolders holders.now.holders (piece_changes touched.now.before.items touched.now.after.items) }
+        requires subs { AllByRecursion (λ s. s.1.holder < length holders.now.holders) subs.now.ranges }
+        requires room { self.old.serial + length (entry_changes holders.now.holders subs.now.ranges reverse.now.ranges entry.now.day
+            touched.now.before.items touched.now.after.items entry.now.request) < 2 ^ 64 }
+        ensures { self.new ≡ all_noted self.old (entry_changes holders.now.holders subs.now.ranges reverse.now.ranges entry.now.day
+            touched.now.before.items touched.now.after.items entry.now.request) }
+    {
+        let day = entry.day;
+        match &entry.request {
+            Request::AddHolder { holder } => {
+                let holder = *holder;
+                self.note(Act::Add, Object::Org { holder, day });
+            }
+            Request::EditHolder { holder } => {
+                self.note_edit(&holder_named(holders, &holder.handle), holder, day);
+            }
+            Request::SubAssign { range, handle } => {
+                let (range, handle) = (*range, *handle);
+                self.note(Act::Add, Object::Sub { range, handle, day });
+            }
+            Request::SubReturn { range } => self.note_sub(holders, range, &subs.exact(range)),
+            Request::SetReverse { range, servers } => {
+                self.note_servers(&reverse.exact(range), range, servers);
+            }
+            Request::ClearReverse { range } => self.note_cleared(&reverse.exact(range), range),
+            Request::Return { range, .. } => self.note_return(holders, reverse, range, touched),
+            _ => {
+                self.note_pieces(Act::Del, touched, holders);
+                self.note_pieces(Act::Add, touched, holders);
+            }
+        }
+    }
+
+    /// Notes that the reverse entry of a range goes.
+    fn note_cleared(&mut self, former: &Option<Servers>, range: &Range)
+        requires { self.old.serial + length (option_map_or (λ servers. dels (cuts_of (range.now, servers))) former.now []) < 2 ^ 64 }
+        ensures { self.new ≡ all_noted self.old (option_map_or (λ servers. dels (cuts_of (range.now, servers))) former.now []) }
+    {
+        if let Some(servers) = former {
+            self.note_cuts(Act::Del, range, servers);
+        }
+    }
+
+    /// Notes that a range comes back, and that the reverse entries inside it go.
+    fn note_return(
+        &mut self,
+        holders: &HolderBook,
+        reverse: &RangeBook<Servers>,
+        range: &Range,
+        touched: &Touched,
+    )
+        requires known { HaveHolders holders.now.holders (piece_changes touched.now.before.items touched.now.after.items) }
+        requires room { self.old.serial + length (dels (blocks_of holders.now.holders (pieces_gone touched.now.before.items touched.now.after.items))
+            ++ (dels (flat_map cuts_of (ranges_inside reverse.now.ranges range.now))
+            ++ adds (blocks_of holders.now.holders (pieces_come touched.now.before.items touched.now.after.items)))) < 2 ^ 64 }
+        ensures { self.new ≡ all_noted self.old (dels (blocks_of holders.now.holders (pieces_gone touched.now.before.items touched.now.after.items))
+            ++ (dels (flat_map cuts_of (ranges_inside reverse.now.ranges range.now))
+            ++ adds (blocks_of holders.now.holders (pieces_come touched.now.before.items touched.now.after.items)))) }
+    {
+        self.note_pieces(Act::Del, touched, holders);
+        self.note_dropped(reverse, range);
+        self.note_pieces(Act::Add, touched, holders);
+    }
+
+    /// Notes the pieces that go, or those that come.
+    fn note_pieces(&mut self, act: Act, touched: &Touched, holders: &HolderBook)
+        requires known { HaveHolders holders.now.holders (piece_changes touched.now.before.items touched.now.after.items) }
+        requires room { self.old.serial + length (block_changes holders.now.holders act (piece_changes touched.now.before.items touched.now.after.items)) < 2 ^ 64 }
+        ensures { self.new ≡ all_noted self.old (block_changes holders.now.holders act (piece_changes touched.now.before.items touched.now.after.items)) }
+    {
+        for (found, piece) in changes(touched) {
+            if found == act {
+                self.note(act, block_of(&piece, holders));
+            }
+        }
+    }
+}
+
+/// The holder of a handle, and the day on which its fields were last given.
+fn holder_named(holders: &HolderBook, handle: &Handle) -> Option<(Holder, u32)>
+    ensures { result ≡ find (has_handle handle.now) holders.now.holders }
+{
+    match holders.by_handle(handle) {
+        Some(number) => Some(holders.holder(number)),
+        None => None,
+    }
+}
+
+/// The handle of a holder.
+fn handle_of(holder: Option<u32>, holders: &HolderBook) -> Option<Handle>
+    requires { IfSome holder (λ number. number < length holders.now.holders) }
+    ensures { result ≡ handle_of holders.now.holders holder }
+{
+    match holder {
+        Some(number) => {
+            let (holder, _) = holders.holder(number);
+            Some(holder.handle)
+        }
+        None => None,
+    }
+}
+
+/// What is published of a piece.
+fn block_of(piece: &Piece, holders: &HolderBook) -> Object
+    requires { IfSome piece.now.card.holder (λ number. number < length holders.now.holders) }
+    ensures { result ≡ block_of_piece holders.now.holders piece.now }
+{
+    Object::Block {
+        range: piece.range,
+        status: piece.card.status,
+        handle: handle_of(piece.card.holder, holders),
+        day: piece.card.day,
+        until: piece.card.until,
+    }
+}
