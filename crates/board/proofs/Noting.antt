@@ -1,5 +1,5 @@
 -- Operations that are noted one by one are noted all.
-use Rattle.std.proofs.Common.{◌≡◌, ℕ, suc, ◌+◌, ◌-◌, ◌<◌, ◌≤◌, Bool, true, false, cond, ◌&&◌, nat_le, inl, inr, List, [], ◌∷◌, ◌++◌, Option, Some, IfSome, drop, filter, find, map, length, refl, sym, ◌∙◌, ap, subst, append_assoc, arith}
+use Rattle.std.proofs.Common.{◌≡◌, ℕ, ◌+◌, ◌-◌, ◌<◌, ◌≤◌, Bool, true, false, cond, ◌&&◌, nat_le, inl, inr, List, [], ◌∷◌, ◌++◌, Option, Some, IfSome, drop, filter, find, map, length, refl, sym, ◌∙◌, ap, subst, append_assoc, arith}
 use Rattle.std.specs.List.{AllByRecursion, flat_map}
 use Rattle.std.specs.Option.{option_map}
 use Rattle.std.proofs.lemmas.Bool.{cond-true, cond-false, cases_Bool, both_ways, and_parts, and_from, leb-true, le-leb, false_from_ne_true}
@@ -21,7 +21,6 @@ use Rattle.reg_laws.proofs.RangeLists.{AllOf, ranges_of_apart}
 use Rattle.sub_book.specs.Book.{ranges_meeting}
 use Rattle.op_feed.specs.PieceChanges.{pieces_gone, pieces_come, piece_changes}
 use Rattle.op_feed.specs.EntryChanges.{dels, adds, entry_changes}
-use Rattle.op_feed.proofs.Fewness.{length_numbered}
 use Rattle.board.specs.Noted.{PlainOperations, noted, all_noted, is_act, block_changes}
 
 pub all_noted-append : (o : PlainOperations) (cs ds : List (Act × Object)) → all_noted o (cs ++ ds) ≡ all_noted (all_noted o cs) ds

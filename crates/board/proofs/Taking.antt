@@ -1,11 +1,10 @@
 -- What the books and the operations need, and make, of the next entry.
-use Rattle.std.proofs.Common.{◌≡◌, ℕ, ◌+◌, ◌-◌, ◌<◌, ◌≤◌, ◌^◌, ◌==◌, nat_eq, cond, Bool, true, false, inl, inr, List, [], ◌∷◌, ◌++◌, Option, None, Some, MatchOption, IfSome, IsSome, ◌↔◌, find, filter, map, length, slice_get, zero, suc, refl, sym, ◌∙◌, ap, subst, arith}
+use Rattle.std.proofs.Common.{◌≡◌, ℕ, ◌+◌, ◌-◌, ◌<◌, ◌≤◌, ◌==◌, Bool, false, inl, inr, List, [], ◌∷◌, ◌++◌, Option, None, Some, MatchOption, IsSome, ◌↔◌, find, filter, map, length, slice_get, zero, suc, refl, sym, ◌∙◌, ap, subst, arith}
 use Rattle.std.specs.List.{AllByRecursion}
 use Rattle.std.proofs.lemmas.Bool.{both_ways, cond_both, cond-true, cond-false, eq-eqb, ne_eqb, cases_eq}
 use Rattle.std.proofs.lemmas.List.{length-map}
 use Rattle.num_range.specs.declared.space.Space.{Space}
 use Rattle.num_range.specs.Range.{PlainRange}
-use Rattle.reg_entry.specs.declared.card.Card.{Card}
 use Rattle.reg_entry.specs.declared.holder.Holder.{Holder}
 use Rattle.reg_entry.specs.declared.object.Object.{Object}
 use Rattle.reg_entry.specs.declared.object.Act.{Act}
@@ -20,22 +19,20 @@ use Rattle.reg_entry.specs.Operations.{PlainBoard, changes_of, numbered, last_of
 use Rattle.reg_entry.specs.Partition.{Partition, pieces_in}
 use Rattle.reg_entry.specs.Register.{Register, register_pieces, pool_after, holders_after, after_entry}
 use Rattle.reg_entry.specs.Covers.{card_for}
-use Rattle.reg_entry.specs.Rooms.{AreRooms}
 use Rattle.reg_entry.specs.Next.{until_of, IsNextEntry}
-use Rattle.reg_entry.specs.Whole.{AreSubsIn, IsWhole, IsWholeRegister}
+use Rattle.reg_entry.specs.Whole.{AreSubsIn, IsWholeRegister}
 use Rattle.reg_laws.proofs.HolderFacts.{edited}
 use Rattle.reg_laws.proofs.NextFacts.{next_facts}
 use Rattle.reg_laws.proofs.WholeStep.{next_whole}
 use Rattle.op_feed.specs.PieceChanges.{goes, comes, piece_changes}
-use Rattle.op_feed.specs.EntryChanges.{entry_changes}
-use Rattle.op_feed.specs.ReachedBoard.{IsReachedBoard, first_kept, HaveSerialsFrom}
+use Rattle.op_feed.specs.ReachedBoard.{first_kept, HaveSerialsFrom}
 use Rattle.op_feed.specs.TouchedBy.{IsTouchedBy}
 use Rattle.op_feed.proofs.Local.{Each, each_front, each_back}
 use Rattle.op_feed.proofs.Handles.{HasHolderIn, piece_holders}
 use Rattle.op_feed.proofs.NextChanges.{unpainted}
 use Rattle.board.specs.declared.board.Board.TheInside.{Inside as BoardInside}
 use Rattle.board.specs.Kept.{Rest, board_of}
-use Rattle.board.specs.Noted.{PlainOperations, all_noted, HasHolder, HaveHolders}
+use Rattle.board.specs.Noted.{PlainOperations, all_noted, HaveHolders}
 use Rattle.board.proofs.Noting.{serial_noted, kept_noted}
 use Rattle.board.proofs.Steps.{register_in}
 

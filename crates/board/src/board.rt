@@ -3,17 +3,15 @@ ghost use Rattle.std.specs.Prelude.{◌≡◌, ◌≤◌, ◌^◌, ◌==◌, ◌
 ghost use Rattle.reg_entry.specs.Rooms.{AreRooms};
 ghost use Rattle.reg_laws.specs.Narrowest.{looked_up};
 
-use crate::books::{
-    change_holders, change_holdings, change_pieces, change_reverse, change_subs,
-};
+use crate::books::{change_holders, change_holdings, change_pieces, change_reverse, change_subs};
 use crate::operations::Operations;
 use holder_book::HolderBook;
 use holding_book::HoldingBook;
 use num_range::{Range, Space};
-use piece_book::PieceBook;
 use op_feed::laws::{
     entries_reach_boards, next_changes, reached_boards_are_whole, reached_boards_number_operations,
 };
+use piece_book::PieceBook;
 use reg_entry::{Entry, Found, Op, Piece, Rooms, Servers, SubCard};
 use reg_laws::holders::next_entries_know_holders;
 use reg_laws::narrowest::narrowest_is_looked_up;

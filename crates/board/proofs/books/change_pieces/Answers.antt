@@ -1,16 +1,11 @@
-use Rattle.std.proofs.Common.{◌≡◌, ◌∙◌, None, refl, sym, ap, subst}
-use Rattle.num_range.specs.Range.{PlainRange}
-use Rattle.reg_entry.specs.declared.request.Request.{Request}
-use Rattle.reg_entry.specs.declared.request.Request.TheVariants.{Split, Join}
+use Rattle.std.proofs.Common.{◌≡◌, None, refl, sym, subst}
+use Rattle.reg_entry.specs.declared.request.Request.TheVariants.{Split}
 use Rattle.reg_entry.specs.Entry.{PlainEntry}
 use Rattle.reg_entry.specs.Next.{IsNextEntry}
-use Rattle.reg_entry.specs.Register.{Register, after_entry, reshaped, painted, pool_after}
+use Rattle.reg_entry.specs.Register.{Register}
 use Rattle.reg_entry.specs.Whole.{IsWholeRegister}
-use Rattle.op_feed.specs.TouchedBy.{IsTouchedBy}
-use Rattle.board.specs.Kept.{Rest, register_with, IsNextFor}
-use Rattle.board.specs.Painting.{CanBePainted}
-use Rattle.board.proofs.Steps.{entry_in, bare_card, unshaped, pool_unpainted, split_place, split_room, paint_room}
-use Rattle.board.proofs.Touching.{touched_by}
+use Rattle.board.specs.Kept.{register_with}
+use Rattle.board.proofs.Steps.{entry_in, bare_card, split_place, split_room, paint_room}
 use Rattle.board.proofs.books.change_pieces.Goals as goal
 
 pub split-requires-clause-place : goal.split-requires-clause-place

@@ -1,6 +1,4 @@
-use Rattle.std.proofs.Common.{◌+◌, ◌<◌, ◌≤◌, length, sym, ◌∙◌, ap, subst, arith}
-use Rattle.reg_entry.specs.Operations.{PlainBoard}
-use Rattle.op_feed.specs.ReachedBoard.{first_kept}
+use Rattle.std.proofs.Common.{arith}
 use Rattle.board.specs.Kept.{board_of}
 use Rattle.board.proofs.Steps.{register_in}
 use Rattle.board.proofs.board.Board.kept.Goals as goal

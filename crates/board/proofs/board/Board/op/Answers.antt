@@ -1,9 +1,8 @@
-use Rattle.std.proofs.Common.{◌≡◌, ◌+◌, ◌-◌, ◌<◌, ◌≤◌, Option, List, length, slice_get, sym, ◌∙◌, ap, subst, refl, arith}
+use Rattle.std.proofs.Common.{◌≡◌, ◌-◌, ◌≤◌, slice_get, ◌∙◌, ap, arith}
 use Rattle.std.specs.Option.{option_copied}
-use Rattle.reg_entry.specs.Op.{PlainOp}
 use Rattle.reg_entry.specs.Operations.{PlainBoard}
-use Rattle.op_feed.specs.ReachedBoard.{first_kept, HaveSerialsFrom}
-use Rattle.board.proofs.Taking.{find_serial, none_below, op_kept, op_not_kept}
+use Rattle.op_feed.specs.ReachedBoard.{first_kept}
+use Rattle.board.proofs.Taking.{find_serial, none_below, op_kept}
 use Rattle.board.proofs.board.Board.op.Goals as goal
 
 pub returns-then-serial-first-clause-found : goal.returns-then-serial-first-clause-found

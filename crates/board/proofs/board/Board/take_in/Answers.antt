@@ -1,17 +1,17 @@
-use Rattle.std.proofs.Common.{◌≡◌, ℕ, ◌+◌, ◌<◌, ◌≤◌, List, length, refl, sym, ◌∙◌, ap, subst, arith}
+use Rattle.std.proofs.Common.{◌≡◌, ℕ, ◌+◌, ◌<◌, ◌≤◌, List, length, sym, ◌∙◌, ap, subst, arith}
 use Rattle.reg_entry.specs.declared.object.Object.{Object}
 use Rattle.reg_entry.specs.declared.object.Act.{Act}
 use Rattle.reg_entry.specs.declared.piece.Piece.{Piece}
 use Rattle.reg_entry.specs.Entry.{PlainEntry}
 use Rattle.reg_entry.specs.Next.{IsNextEntry}
 use Rattle.reg_entry.specs.Operations.{PlainBoard, changes_of, board_after_entry}
-use Rattle.reg_entry.specs.Register.{Register, after_entry, pool_after, holders_after, subs_after, reverses_after}
+use Rattle.reg_entry.specs.Register.{Register, after_entry, pool_after, holders_after, subs_after}
 use Rattle.reg_entry.specs.Whole.{IsWholeRegister}
 use Rattle.reg_laws.specs.Reached.{IsReached}
 use Rattle.op_feed.specs.EntryChanges.{entry_changes}
 use Rattle.op_feed.specs.ReachedBoard.{IsReachedBoard}
 use Rattle.op_feed.specs.TouchedBy.{IsTouchedBy}
-use Rattle.board.specs.Kept.{Rest, register_of, board_of, AreHoldingsIn}
+use Rattle.board.specs.Kept.{register_of, board_of, AreHoldingsIn}
 use Rattle.board.specs.Noted.{PlainOperations}
 use Rattle.board.proofs.Noting.{window_noted}
 use Rattle.board.proofs.Steps.{register_is, register_in, entry_in, kept_by}
@@ -22,12 +22,14 @@ pub change_holdings-requires : goal.change_holdings-requires
 change_holdings-requires c =
     let r : Register = register_in c.self.inside in
     let next : IsNextEntry r c.args.e.now = next_in c.self.inside c.args.self.now c.args.e.now c.self.view_is c.requires.next in
-    let kept = c.self.invariant.books in
-    (rest_in c.self.inside, record {
-      next = record { whole = c.reached_registers_are_whole.ensures r kept.reached; next = next; room = kept.pieces };
-      holdings = kept.holdings;
-      room = kept.holding_room;
-    })
+    let kept = c.self.invariant.books in (
+      rest_in c.self.inside,
+      record {
+        next = record { whole = c.reached_registers_are_whole.ensures r kept.reached; next = next; room = kept.pieces };
+        holdings = kept.holdings;
+        room = kept.holding_room;
+      },
+    )
 
 pub change_pieces-touched-requires : goal.change_pieces-touched-requires
 change_pieces-touched-requires c =

@@ -1,6 +1,5 @@
-use Rattle.std.proofs.Common.{◌≡◌, ◌+◌, ◌∙◌, List, length, sym, ap, arith}
+use Rattle.std.proofs.Common.{◌∙◌, length, sym, ap, arith}
 use Rattle.std.specs.List.{flat_map}
-use Rattle.num_range.specs.Range.{PlainRange}
 use Rattle.reg_entry.specs.Objects.{cuts_of}
 use Rattle.reg_entry.specs.Ranges.{ranges_inside}
 use Rattle.op_feed.specs.EntryChanges.{dels}

@@ -1,4 +1,4 @@
-use Rattle.std.proofs.Common.{◌≡◌, ◌+◌, ◌<◌, ◌∙◌, List, length, sym, ap, subst, refl}
+use Rattle.std.proofs.Common.{◌+◌, ◌<◌, ◌∙◌, List, length, sym, ap, subst}
 use Rattle.reg_entry.specs.declared.object.Object.{Object}
 use Rattle.reg_entry.specs.declared.object.Act.{Act}
 use Rattle.reg_entry.specs.Entry.{PlainEntry}
@@ -6,7 +6,7 @@ use Rattle.reg_entry.specs.Objects.{blocks_of}
 use Rattle.op_feed.specs.PieceChanges.{pieces_gone, pieces_come}
 use Rattle.op_feed.specs.EntryChanges.{dels, adds, entry_changes}
 use Rattle.board.specs.Noted.{all_noted}
-use Rattle.board.proofs.Noting.{sub_known, only_pieces, of_pieces, dels_are, adds_are, fits_first, fits_behind, noted_in_two}
+use Rattle.board.proofs.Noting.{sub_known, only_pieces, dels_are, adds_are, fits_first, fits_behind, noted_in_two}
 use Rattle.board.proofs.operations.Operations.note_entry.Goals as goal
 
 pub note_sub-requires-clause-known : goal.note_sub-requires-clause-known

@@ -1,13 +1,11 @@
-use Rattle.std.proofs.Common.{◌≡◌, ◌+◌, ◌∙◌, ◌++◌, List, length, sym, ap, arith, length-append}
+use Rattle.std.proofs.Common.{◌∙◌, ap}
 use Rattle.std.specs.List.{flat_map}
-use Rattle.reg_entry.specs.declared.object.Object.{Object}
-use Rattle.reg_entry.specs.declared.object.Act.{Act}
 use Rattle.reg_entry.specs.Objects.{blocks_of, cuts_of}
 use Rattle.reg_entry.specs.Ranges.{ranges_inside}
 use Rattle.op_feed.specs.PieceChanges.{pieces_gone, pieces_come}
 use Rattle.op_feed.specs.EntryChanges.{dels, adds}
 use Rattle.board.specs.Noted.{all_noted}
-use Rattle.board.proofs.Noting.{dels_are, adds_are, serial_after, noted_in_three, fits_first, fits_second, fits_third}
+use Rattle.board.proofs.Noting.{dels_are, adds_are, noted_in_three, fits_first, fits_second, fits_third}
 use Rattle.board.proofs.operations.Operations.note_return.Goals as goal
 
 pub note_pieces-requires-clause-room : goal.note_pieces-requires-clause-room
