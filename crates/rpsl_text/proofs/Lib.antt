@@ -1,0 +1,7 @@
+pub mod Appended
+pub mod Lengths
+pub mod Parted
+pub mod ReadBack
+mod Rows
+pub mod Stored
+pub mod Values

@@ -1,0 +1,83 @@
+//! Attributes, kept in the memory of two vectors, however many there are.
+ghost use Rattle.std.specs.Prelude.{◌≡◌};
+
+use std::marker::Model;
+
+/// How many bytes a name and its value have.
+#[derive(Clone, Copy, Debug, PartialEq, Eq, Drop)]
+pub(crate) struct Span {
+    pub(crate) name: usize,
+    pub(crate) value: usize,
+}
+
+/// The attributes of an object, in the order in which they stand in its text. Names are in lower case; a value has single
+/// blanks between its words, and none at its ends.
+#[derive(Debug, Drop)]
+pub struct Attrs {
+    // All names and values, one behind the other.
+    pub(crate) bytes: Vec<u8>,
+    pub(crate) spans: Vec<Span>,
+}
+
+impl Model for Attrs {
+    ghost use Rattle.std.specs.Prelude.{List, ℕ};
+    ghost use Rattle.rpsl_text.specs.Attributes.{attributes_at, AreSpansOf};
+
+    ghost Value = { List (List ℕ × List ℕ) };
+
+    ghost view = { λ a. attributes_at a.bytes.items a.spans.items };
+
+    ghost invariant = { λ a. AreSpansOf a.bytes.items a.spans.items };
+}
+
+/// The attributes that are left.
+#[derive(Drop)]
+pub struct PairWalk<'a> {
+    bytes: &'a [u8],
+    spans: &'a [Span],
+}
+
+impl<'a> Model for PairWalk<'a> {
+    ghost use Rattle.std.specs.Prelude.{List, ℕ};
+    ghost use Rattle.rpsl_text.specs.Attributes.{attributes_at, AreSpansOf};
+
+    ghost Value = { List (List ℕ × List ℕ) };
+
+    ghost view = { λ walk. attributes_at walk.bytes.now walk.spans.now };
+
+    ghost invariant = { λ walk. AreSpansOf walk.bytes.now walk.spans.now };
+}
+
+impl Attrs {
+    /// Lends each name and its value, in order.
+    pub fn walk(&self) -> PairWalk<'_>
+        ensures { result ≡ self.now }
+    {
+        PairWalk {
+            bytes: self.bytes.as_slice(),
+            spans: self.spans.as_slice(),
+        }
+    }
+}
+
+impl<'a> Iterator for PairWalk<'a> {
+    ghost use Rattle.std.specs.Iterator.{YieldsFirstBy, item_count};
+    ghost use Rattle.rpsl_text.specs.Pairs.{pair_of};
+
+    type Item = (&'a [u8], &'a [u8]);
+
+    ghost next_gives = { YieldsFirstBy pair_of (λ left. left) };
+
+    ghost remaining = { item_count (λ left. left) };
+
+    fn next(&mut self) -> Option<(&'a [u8], &'a [u8])> {
+        let [span, spans @ ..] = self.spans else {
+            return None;
+        };
+        let (name, rest) = self.bytes.split_at(span.name);
+        let (value, bytes) = rest.split_at(span.value);
+        self.bytes = bytes;
+        self.spans = spans;
+        Some((name, value))
+    }
+}

@@ -1,0 +1,17 @@
+//! Objects of the register as text of the Routing Policy Specification Language, and such text read (RFC 2622 2).
+#![tactic(auto)]
+
+mod attrs;
+mod domain;
+mod fault;
+pub mod laws;
+mod lines;
+mod read;
+#[cfg(test)]
+mod tests;
+mod write;
+
+pub use attrs::{Attrs, PairWalk};
+pub use fault::RpslFault;
+pub use read::read_object;
+pub use write::write_object;
