@@ -1,5 +1,5 @@
 -- How far the register behind a connection has come, and what has failed there.
-use Rattle.std.specs.Prelude.{ℕ, List, ⊤, Bool, true, false}
+use Rattle.std.specs.Prelude.{◌≤◌, ℕ, List, ⊤, Bool, true, false}
 use Rattle.reg_entry.specs.Entry.{PlainEntry}
 use Rattle.link_face.specs.Faults.{HasRisen}
 use Rattle.hall.specs.declared.backend.Fault.{Fault}
@@ -18,11 +18,19 @@ standing entries refusals failures = record { entries = entries; refusals = refu
 abbrev pub over : List PlainEntry → Standing → Standing
 over entries s = record { entries = entries; refusals = s.refusals; failures = s.failures }
 
--- the counts that each fault raises, or that stand at their last value; want of memory is counted nowhere
+-- no count falls
+pub record NoCountFalls (before after : Standing) : Type 0 where
+  pub looks : before.refusals ≤ after.refusals
+  pub disk : before.failures ≤ after.failures
+
+-- the count that the fault raises, or that stands at its last value; want of memory is counted nowhere
+abbrev pub HasRaised : Fault → Standing → Standing → Type 0
+HasRaised NoMemory before after = ⊤
+HasRaised Shut before after = HasRisen before.refusals after.refusals
+HasRaised DiskFailed before after = HasRisen before.failures after.failures
+
 abbrev pub IsCausedBetween : Fault → Standing → Standing → Type 0
-IsCausedBetween NoMemory before after = ⊤
-IsCausedBetween Shut before after = HasRisen before.refusals after.refusals
-IsCausedBetween DiskFailed before after = HasRisen before.failures after.failures
+IsCausedBetween fault before after = NoCountFalls before after × HasRaised fault before after
 
 -- the code of the reply that tells of the fault (RFC 9110 15.6)
 abbrev pub fault_code : Fault → ℕ
