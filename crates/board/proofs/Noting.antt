@@ -147,13 +147,6 @@ last_of_last count xs ys =
     counted : (a b c k ky xy : ℕ) → k ≡ a - (a - c) → ky ≡ k + b → xy ≡ a + b → (a - c) + (ky - c) ≡ xy - c
     counted a b c k ky xy e f g = omega arith
 
-abbrev with_all : PlainOperations → List (Act × Object) → PlainOperations
-with_all o cs = record {
-  serial = o.serial + length cs;
-  kept = last_of o.window (o.kept ++ numbered o.serial cs);
-  window = o.window;
-}
-
 pub kept_noted : (o : PlainOperations) (cs : List (Act × Object)) → length o.kept ≤ o.window
     → (all_noted o cs).kept ≡ last_of o.window (o.kept ++ numbered o.serial cs)
 kept_noted o [] few =

@@ -44,10 +44,6 @@ register_in b = register_of b.rooms b.entries b.first_day b.last_day b.pieces b.
 abbrev pub entry_in : EntryInside → PlainEntry
 entry_in e = record { seq = e.seq; day = e.day; who = e.who; request = e.request; cover = e.cover; card = e.card }
 
-pub next_at : (r s : Register) (e d : PlainEntry) → r ≡ s → e ≡ d → IsNextEntry s d → IsNextEntry r e
-next_at r s e d same one next =
-    subst (λ (x : Register). IsNextEntry x e) (sym same) (subst (λ (y : PlainEntry). IsNextEntry s y) (sym one) next)
-
 -- ---- the parts of the register after the entry
 
 -- a request that adds and takes out no sub leaves the subs
@@ -88,25 +84,6 @@ same_holders (Join at) day hs a b = refl
 same_holders (Transfer range from to) day hs a b = refl
 same_holders (SetReverse range servers) day hs a b = refl
 same_holders (ClearReverse range) day hs a b = refl
-
--- a request that neither splits nor joins leaves the pieces to what is painted
-pub unshaped : (request : Request) (pool : Partition) → ((at : PlainNumber) → request ≡ Split at → ⊥)
-    → ((at : PlainNumber) → request ≡ Join at → ⊥) → reshaped request pool ≡ pool
-unshaped (Receive range) pool a b = refl
-unshaped (AddHolder holder) pool a b = refl
-unshaped (EditHolder holder) pool a b = refl
-unshaped (Delegate space amount status handle) pool a b = refl
-unshaped (Reserve range) pool a b = refl
-unshaped (Unreserve range) pool a b = refl
-unshaped (SubAssign range handle) pool a b = refl
-unshaped (SubReturn range) pool a b = refl
-unshaped (Return range handle) pool a b = refl
-unshaped (Release range) pool a b = refl
-unshaped (Split at) pool a b = absurd (a at refl)
-unshaped (Join at) pool a b = absurd (b at refl)
-unshaped (Transfer range from to) pool a b = refl
-unshaped (SetReverse range servers) pool a b = refl
-unshaped (ClearReverse range) pool a b = refl
 
 unpainted : (cover : Option PlainRange) (pool : Partition) → painted cover None pool ≡ pool
 unpainted None pool = refl
@@ -298,11 +275,6 @@ added_count request day hs holder n m is e f =
 length_map : (f : Holder × ℕ → Holder × ℕ) (hs : List (Holder × ℕ)) → length (map f hs) ≡ length hs
 length_map f [] = refl
 length_map f (h ∷ hs) = ap (λ (n : ℕ). suc n) (length_map f hs)
-
-pub edited_count : (request : Request) (day : ℕ) (hs : List (Holder × ℕ)) (holder : Holder) (n : ℕ) → request ≡ EditHolder holder
-    → n ≡ length hs → n ≡ length (holders_after request day hs)
-edited_count request day hs holder n is e =
-    e ∙ sym (length_map _ hs) ∙ ap (λ (q : Request). length (holders_after q day hs)) (sym is)
 
 -- an edited holder adds none
 pub same_length : (request : Request) (day : ℕ) (hs : List (Holder × ℕ)) → ((holder : Holder) → request ≡ AddHolder holder → ⊥)

@@ -183,10 +183,3 @@ op_kept b serial o few low is = (
   λ some. (low, let l = within b.kept (serial - first_kept b) (subst (λ x. IsSome x) is some) in omega arith),
   λ both. subst (λ x. IsSome x) (sym is) (there b.kept (serial - first_kept b) (let l = both.1 in omega arith)),
 )
-
-pub op_not_kept : (b : PlainBoard) (serial : ℕ) (o : Option PlainOp) → serial < first_kept b → o ≡ None
-    → IsSome o ↔ ((first_kept b ≤ serial) × (serial ≤ b.serial))
-op_not_kept b serial o low is = (
-  λ some. absurd (both_ways false refl (subst (λ x. IsSome x) is some)),
-  λ both. absurd (let l = both.0 in omega arith),
-)

@@ -12,17 +12,6 @@ with_those pool Asn ps = refl
 with_those pool Ipv4 ps = refl
 with_those pool Ipv6 ps = refl
 
-pub touched_by : (old new : Partition) (space : Space) (ps before after : List Piece) → new ≡ with_pieces old space ps
-    → IsTouched (pieces_in old space) (pieces_in new space) before after → IsTouchedBy old new before after
-touched_by old new space ps before after e t = record {
-  space = space;
-  others = e ∙ ap (with_pieces old space) (sym (ap (λ p. pieces_in p space) e ∙ with_those old space ps));
-  front = t.front;
-  back = t.back;
-  was = t.was;
-  stands = t.stands;
-}
-
 pub untouched_by : (pool : Partition) (before after : List Piece) → before ≡ [] → after ≡ [] → IsTouchedBy pool pool before after
 untouched_by pool before after e f = record {
   space = Asn;

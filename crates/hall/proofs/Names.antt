@@ -56,14 +56,6 @@ names_no_long_second short first second more long (Zone apex) p =
 pub long_second : PathsAreShort → (first second : List ℕ) (more : List (List ℕ)) → 64 < length second → IsNamed (first ∷ second ∷ more) None
 long_second short first second more long = names_no_long_second short first second more long
 
-names_no_long_third : PathsAreShort → (first second third : List ℕ) → 64 < length third → (lookup : Lookup) → ¬ (Names (first ∷ second ∷ third ∷ []) lookup)
-names_no_long_third short first second third long (Rdap ask) p = omega (arith, long, (short first (Some second) (Some third) ask p).third_is)
-names_no_long_third short first second third long Stats p = omega (arith, ap length p)
-names_no_long_third short first second third long (Zone apex) p = omega (arith, ap length p.1)
-
-pub long_third : PathsAreShort → (first second third : List ℕ) → 64 < length third → IsNamed (first ∷ second ∷ third ∷ []) None
-long_third short first second third long = names_no_long_third short first second third long
-
 -- ---- segments that are too many
 
 first_part : (parts : List (List ℕ)) (n : ℕ) → length parts ≡ n + 1 → (part : List ℕ) × (rest : List (List ℕ)) × (parts ≡ part ∷ rest)
