@@ -1,5 +1,6 @@
 pub mod Applied
 pub mod Ends
+pub mod Fed
 pub mod Entries
 pub mod FirstLine
 pub mod Front

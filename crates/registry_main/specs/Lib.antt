@@ -6,3 +6,4 @@ pub mod Exit
 pub mod PolicyBytes
 pub mod Command
 pub mod Published
+pub mod Mirror

@@ -19,6 +19,8 @@ pub enum Command {
     Batch,
     /// To write what is published of the register that a script leaves.
     Publish(Publication),
+    /// To feed a script to a mirror, and to write the objects that it holds then.
+    Mirror,
 }
 
 impl Command {
@@ -36,6 +38,8 @@ impl Command {
             Some(Command::Publish(Publication::Statistics))
         } else if word == "zones" {
             Some(Command::Publish(Publication::Zones))
+        } else if word == "mirror" {
+            Some(Command::Mirror)
         } else {
             None
         }

@@ -2,6 +2,7 @@
 ghost use Rattle.std.specs.Prelude.{◌≡◌};
 ghost use Rattle.registry_main.specs.Exit.{exit_status};
 
+use mirror_core::FeedFault;
 use policy_table::PolicyFault;
 use std::fmt;
 
@@ -20,6 +21,8 @@ pub enum Exit {
     WriteFault,
     /// There was no memory.
     NoMemory,
+    /// The script is no feed that leaves a mirror at rest.
+    FeedRefused(FeedFault),
 }
 
 impl Exit {
@@ -34,6 +37,7 @@ impl Exit {
             Exit::ReadFault => 5,
             Exit::WriteFault => 6,
             Exit::NoMemory => 8,
+            Exit::FeedRefused(_) => 10,
         }
     }
 }
@@ -48,7 +52,7 @@ impl fmt::Display for Exit {
     fn fmt<W: fmt::Write>(&self, f: &mut fmt::Formatter<W>) -> fmt::Result {
         match self {
             Exit::Done => Ok(()),
-            Exit::Usage => f.write_str("usage: registry_main batch | stats | zones"),
+            Exit::Usage => f.write_str("usage: registry_main batch | stats | zones | mirror"),
             Exit::PolicyRefused(PolicyFault::TooLong) => f.write_str("policy: too long"),
             Exit::PolicyRefused(PolicyFault::Text) => f.write_str("policy: text"),
             Exit::PolicyRefused(PolicyFault::Missing(key)) => write!(f, "policy: missing {key}"),
@@ -58,6 +62,12 @@ impl fmt::Display for Exit {
             Exit::ReadFault => f.write_str("read fault"),
             Exit::WriteFault => f.write_str("write fault"),
             Exit::NoMemory => f.write_str("no memory"),
+            Exit::FeedRefused(FeedFault::Spelling { .. }) => f.write_str("feed: Spelling"),
+            Exit::FeedRefused(FeedFault::Gap { .. }) => f.write_str("feed: Gap"),
+            Exit::FeedRefused(FeedFault::ForeignSource { .. }) => f.write_str("feed: ForeignSource"),
+            Exit::FeedRefused(FeedFault::ClassOut { .. }) => f.write_str("feed: ClassOut"),
+            Exit::FeedRefused(FeedFault::Announced { .. }) => f.write_str("feed: Announced"),
+            Exit::FeedRefused(FeedFault::NoMemory) => f.write_str("feed: NoMemory"),
         }
     }
 }

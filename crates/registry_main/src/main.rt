@@ -1,5 +1,5 @@
 //! The register's program: `registry_main batch` answers a script; `stats` and `zones` write the statistics file and the
-//! reverse zones of the register that a script leaves.
+//! reverse zones of the register that a script leaves; `mirror` writes the objects of a mirror that is fed the script.
 #![tactic(auto)]
 
 mod answer;
@@ -11,6 +11,7 @@ mod due_lines;
 mod exit;
 mod laws;
 mod line_buffer;
+mod mirror;
 mod policy_bytes;
 mod policy_file;
 mod publish;

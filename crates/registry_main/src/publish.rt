@@ -2,13 +2,14 @@
 ghost use Rattle.std.specs.Prelude.{◌≡◌, ◌≢◌, ℕ, Err, OnOk, OnErr};
 ghost use Rattle.std.specs.Io.KnownBytes.{Appends, Keeps, IsAtEnd};
 ghost use Rattle.link_face.specs.Faults.{HasRisen};
+ghost use Rattle.mirror_core.specs.declared.fault.FeedFault.{FeedFault};
 ghost use Rattle.policy_table.specs.declared.fault.PolicyFault.{PolicyFault};
 ghost use Rattle.registry_main.specs.Session.{new_session};
 ghost use Rattle.registry_main.specs.Batch.{BeginsWith, IsFrontWritten, known};
 ghost use Rattle.reverse_zone.specs.Apex.{IsApex};
 ghost use Rattle.registry_main.specs.Published.{session_text, zone_or_none, with_text_after, IsPublished};
 ghost use Rattle.registry_main.specs.declared.command.Publication.TheVariants.{Statistics as TheStatistics, Zones as TheZones};
-ghost use Rattle.registry_main.specs.declared.exit.Exit.TheVariants.{Done, Usage, PolicyRefused, ReadFault, WriteFault, NoMemory};
+ghost use Rattle.registry_main.specs.declared.exit.Exit.TheVariants.{Done, Usage, PolicyRefused, ReadFault, WriteFault, NoMemory, FeedRefused};
 ghost use Rattle.registry_main.specs.declared.publish.Unpublished.TheVariants.{Read, Write, Memory};
 
 use crate::apply::apply_script;
@@ -194,6 +195,7 @@ pub fn answer_publication<T: Source, K: Sink, C: Clock>(
     ensures whole { what ≡ TheStatistics → result ≡ NoMemory → out.new ≡ out.old }
     ensures no_usage { result ≢ Usage }
     ensures no_refusal { (fault : PolicyFault) → result ≢ PolicyRefused fault }
+    ensures no_feed { (fault : FeedFault) → result ≢ FeedRefused fault }
     ensures read { result ≡ ReadFault → HasRisen (T.faults script.old) (T.faults script.new) }
     ensures read_told { result ≢ ReadFault → T.faults script.new ≡ T.faults script.old }
     ensures write { result ≡ WriteFault → HasRisen (K.faults out.old) (K.faults out.new) }

@@ -9,6 +9,8 @@ ghost use Rattle.reg_entry.specs.Next.{IsLegal};
 ghost use Rattle.reg_entry.specs.Pieces.{overlap, IsLeastTaken};
 ghost use Rattle.reg_entry.specs.Policy.{PlainPolicy, IsPolicy};
 ghost use Rattle.reg_entry.specs.Register.{register_after, register_pieces};
+ghost use Rattle.mirror_core.specs.declared.fault.FeedFault.{FeedFault};
+ghost use Rattle.mirror_core.specs.declared.fault.FeedFault.TheVariants as feed_faults;
 ghost use Rattle.policy_table.specs.declared.fault.PolicyFault.{PolicyFault};
 ghost use Rattle.policy_table.specs.declared.fault.PolicyFault.TheVariants as faults;
 ghost use Rattle.link_face.specs.Faults.{HasRisen};
@@ -21,10 +23,11 @@ ghost use Rattle.registry_main.specs.Batch.{known, IsAnswered};
 ghost use Rattle.registry_main.specs.Command.{command_of};
 ghost use Rattle.registry_main.specs.PolicyBytes.{policy_front, IsSaid, IfSaid};
 ghost use Rattle.registry_main.specs.Published.{IsPublished};
-ghost use Rattle.registry_main.specs.declared.command.Command.TheVariants.{Batch, Publish};
+ghost use Rattle.registry_main.specs.Mirror.{mirror_of, IsMirrored};
+ghost use Rattle.registry_main.specs.declared.command.Command.TheVariants.{Batch, Publish, Mirror};
 ghost use Rattle.registry_main.specs.declared.command.Publication.{Publication};
 ghost use Rattle.registry_main.specs.declared.command.Publication.TheVariants.{Statistics};
-ghost use Rattle.registry_main.specs.declared.exit.Exit.TheVariants.{Done, Usage, PolicyRefused, ReadFault, WriteFault, NoMemory};
+ghost use Rattle.registry_main.specs.declared.exit.Exit.TheVariants.{Done, Usage, PolicyRefused, ReadFault, WriteFault, NoMemory, FeedRefused};
 
 use crate::batch::{Stop, answer_script};
 use crate::command::Command;
@@ -33,6 +36,7 @@ use crate::laws::{
     accepted_entries_are_legal, answers_are_least, scripts_conserve, statistics_conserve,
     zones_are_delegated,
 };
+use crate::mirror::answer_mirror;
 use crate::policy_bytes::{NoPolicy, read_policy};
 use crate::publish::answer_publication;
 use crate::session::Session;
@@ -55,6 +59,7 @@ fn answer_batch<T: Source, K: Sink, C: Clock>(
     ensures unread { result ≡ NoMemory → (script.new ≡ script.old) × (out.new ≡ out.old) }
     ensures no_usage { result ≢ Usage }
     ensures no_refusal { (fault : PolicyFault) → result ≢ PolicyRefused fault }
+    ensures no_feed { (fault : FeedFault) → result ≢ FeedRefused fault }
     ensures read { result ≡ ReadFault → HasRisen (T.faults script.old) (T.faults script.new) }
     ensures read_told { result ≢ ReadFault → T.faults script.new ≡ T.faults script.old }
     ensures write { result ≡ WriteFault → HasRisen (K.faults out.old) (K.faults out.new) }
@@ -71,7 +76,8 @@ fn answer_batch<T: Source, K: Sink, C: Clock>(
 }
 
 /// Does what the words say, by the rules of the policy: `batch` answers the script line by line; `stats` and `zones` write
-/// the statistics file and the reverse zones of the register that the script leaves.
+/// the statistics file and the reverse zones of the register that the script leaves; `mirror` feeds the script to a mirror, and
+/// writes its objects.
 pub fn run<R: AllocGlobal, S: Source, T: Source, K: Sink, C: Clock>(
     rt: &R,
     words: &[String],
@@ -110,6 +116,17 @@ pub fn run<R: AllocGlobal, S: Source, T: Source, K: Sink, C: Clock>(
         (known (T.taken script.new) (T.left script.new) (K.written out.new))) }
     ensures unwritten { (what : Publication) → command_of (map string_bytes words.now) ≡ Some (Publish what) → result ≡ ReadFault → out.new ≡ out.old }
     ensures whole { command_of (map string_bytes words.now) ≡ Some (Publish Statistics) → result ≡ NoMemory → out.new ≡ out.old }
+
+    // `mirror`: what is written are the objects of a mirror of the policy's registry that was fed the script. Nothing is written
+    // before the script has ended, and nothing where the mirror has a fault then or isn't at rest: this the run tells.
+    ensures mirrored { command_of (map string_bytes words.now) ≡ Some Mirror
+        → ((result ≢ Done) × ((fault : FeedFault) → result ≢ FeedRefused fault) × (script.new ≡ script.old) × (out.new ≡ out.old))
+        ⊎ ((p : PlainPolicy) × IsPolicy p × IsSaid (S.left policy.old) (Ok p)
+        × IsMirrored p.registry (known (T.taken script.old) (T.left script.old) (K.written out.old)) result
+        (known (T.taken script.new) (T.left script.new) (K.written out.new))) }
+    ensures unfed { command_of (map string_bytes words.now) ≡ Some Mirror → result ≡ ReadFault → out.new ≡ out.old }
+    ensures feed_refused { (fault : FeedFault) → result ≡ FeedRefused fault
+        → (command_of (map string_bytes words.now) ≡ Some Mirror) × (fault ≢ feed_faults.NoMemory) × (out.new ≡ out.old) }
 
     // Done comes at the script's end alone.
     ensures ended { result ≡ Done → T.has_ended script.new }
@@ -173,6 +190,7 @@ pub fn run<R: AllocGlobal, S: Source, T: Source, K: Sink, C: Clock>(
             Command::Publish(what) => {
                 answer_publication(rt.alloc(), policy, what, script, out, clock)
             }
+            Command::Mirror => answer_mirror(rt.alloc(), policy.registry(), script, out),
         },
         Err(NoPolicy::Read) => Exit::ReadFault,
         Err(NoPolicy::Refused(fault)) => Exit::PolicyRefused(fault),
