@@ -1,0 +1,2 @@
+//! The change stream: what is asked of it, and what is answered (NRTM version 3).
+#![tactic(auto)]
