@@ -1,0 +1,4 @@
+pub mod Numbers
+pub mod Parted
+pub mod Spelled
+pub mod Kept
