@@ -29,7 +29,7 @@ found_dates r test (o ∷ ops) op h all e =
       | inl here ↦
           subst (λ (x : PlainOp). HasDates x.object) (same_Some o op (sym (cond-true (test o) (Some o) (find test ops) here) ∙ e))
           (has_dates r o.object h all.0)
-      | inr there ↦ found_dates r test ops op h all.1.1 (sym (cond-false (test o) (Some o) (find test ops) there) ∙ e)
+      | inr there ↦ found_dates r test ops op h all.2 (sym (cond-false (test o) (Some o) (find test ops) there) ∙ e)
     ]
 
 -- ---- which are left from a serial on
@@ -40,10 +40,10 @@ has_serial s op = op.serial == s
 tests : (s last n : ℕ) → n ≢ s → (nat_le s n && nat_le n last) ≡ (nat_le (s + 1) n && nat_le n last)
 tests s last n h = grind (arith, nat_tests)
 
-inside : (s last n : ℕ) → n ≡ s → s ≤ last → (nat_le s n && nat_le n last) ≡ true
+pub inside : (s last n : ℕ) → n ≡ s → s ≤ last → (nat_le s n && nat_le n last) ≡ true
 inside s last n e l = grind (arith, nat_tests)
 
-below : (s last n : ℕ) → n < s → (nat_le s n && nat_le n last) ≡ false
+pub below : (s last n : ℕ) → n < s → (nat_le s n && nat_le n last) ≡ false
 below s last n l = grind (arith, nat_tests)
 
 above : (s last n : ℕ) → last < s → (nat_le s n && nat_le n last) ≡ false
@@ -66,7 +66,7 @@ missing s last (o ∷ ops) e =
     ]
 
 -- all operations come later
-none_above : (s k : ℕ) (ops : List PlainOp) → s < k → HaveSerialsFrom k ops → find (has_serial s) ops ≡ None
+pub none_above : (s k : ℕ) (ops : List PlainOp) → s < k → HaveSerialsFrom k ops → find (has_serial s) ops ≡ None
 none_above s k [] l h = refl
 none_above s k (o ∷ ops) l h =
     cond-false (o.serial == s) (Some o) (find (has_serial s) ops) (ne_eqb o.serial s (omega (arith, h.0, l)))
