@@ -35,11 +35,14 @@ is_between first last op = nat_le first op.serial && nat_le op.serial last
 abbrev pub operations_between : PlainBoard → ℕ → ℕ → List PlainOp
 operations_between b first last = filter (is_between first last) b.kept
 
+-- two serials with `-` between them
+abbrev pub serials_range : ℕ → ℕ → List ℕ
+serials_range first last = decimal first ++ codes "-" ++ decimal last
+
 -- what is answered where not all serials are kept
 abbrev pub not_kept_text : PlainBoard → ℕ → ℕ → List ℕ
 not_kept_text b first last =
-    codes "%ERROR: serials " ++ decimal first ++ codes "-" ++ decimal last ++ codes " are not inside "
-    ++ decimal (first_kept b) ++ codes "-" ++ decimal b.serial ++ codes "\n"
+    codes "%ERROR: serials " ++ serials_range first last ++ codes " are not inside " ++ serials_range (first_kept b) b.serial ++ codes "\n"
 
 abbrev pub between_text : PlainBoard → List ℕ → ℕ → ℕ → List ℕ
 between_text b source first last =

@@ -1,7 +1,6 @@
-ghost use Rattle.std.specs.Prelude.{◌≡◌, map, IfOk};
-ghost use Rattle.std.specs.Char.{to_ascii_uppercase};
+ghost use Rattle.std.specs.Prelude.{◌≡◌, IfOk};
 ghost use Rattle.nrtm_stream.specs.Stream.{capitals};
-ghost use Rattle.nrtm_stream.specs.Answer.{asks_for_newer, are_kept, last_asked, between_text, stream_answer, nrtm_answer};
+ghost use Rattle.nrtm_stream.specs.Answer.{asks_for_newer, are_kept, between_text, stream_answer, nrtm_answer};
 
 use crate::Ask;
 use crate::stream::{append_not_kept, append_stream};
@@ -62,7 +61,7 @@ fn asks_for_newer(board: &Board, ask: Ask) -> bool
     ensures { result ≡ asks_for_newer board.now ask }
 {
     let (_, last_kept) = board.kept();
-    ask.last.is_none() && ask.first == last_kept + 1
+    ask.last.is_none() && last_kept.checked_add(1) == Some(ask.first)
 }
 
 fn stream_answer(
