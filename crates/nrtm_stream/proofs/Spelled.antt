@@ -11,7 +11,7 @@ use Rattle.std.specs.Option.{option_map, option_and_then}
 use Rattle.addr_text.specs.Reading.{parted_at}
 use Rattle.nrtm_stream.specs.declared.ask.Ask.{Ask}
 use Rattle.nrtm_stream.specs.declared.ask.AskFault.TheVariants.{Version, Source}
-use Rattle.nrtm_stream.specs.Query.{PlainQuery, is_source_byte, is_source, last_text, serials_text, query_text, IsSerial, SpellsQuery}
+use Rattle.nrtm_stream.specs.Query.{PlainQuery, is_query_byte, is_query_source, last_text, serials_text, query_text, IsSerial, SpellsQuery}
 use Rattle.nrtm_stream.specs.Ask.{behind_flag, source_of, number_of, last_of, serials_of, query_of, ask_to, ask_of, IsAskedOf}
 use Rattle.nrtm_stream.proofs.Numbers.{number_value, number_spelled, decimal_free}
 use Rattle.nrtm_stream.proofs.Parted.{parted_here, parted_text}
@@ -100,10 +100,10 @@ serials_read ask first last =
 
 -- ---- the whole line
 
-source_spelled : (text source : List ℕ) → source_of text ≡ Some source → (text ≡ source) × IsTrue (is_source source)
+source_spelled : (text source : List ℕ) → source_of text ≡ Some source → (text ≡ source) × IsTrue (is_query_source source)
 source_spelled text source e =
-    let (test, same) = cond_some (is_source text) text source e in
-    (same, subst (λ t. IsTrue (is_source t)) same test)
+    let (test, same) = cond_some (is_query_source text) text source e in
+    (same, subst (λ t. IsTrue (is_query_source t)) same test)
 
 pub query_spelled : (line : List ℕ) (q : PlainQuery) → query_of line ≡ Some q → SpellsQuery line q
 unfolding query_of
@@ -127,11 +127,11 @@ query_spelled line q e =
       last = a.last;
     })
 
-source_free : (source : List ℕ) → IsTrue (is_source source) → All (λ b. b ≢ 58) source
+source_free : (source : List ℕ) → IsTrue (is_query_source source) → All (λ b. b ≢ 58) source
 source_free source h =
-    All-weaker (λ b. is_source_byte b ≡ true) (λ b. b ≢ 58)
-    (λ b passes colon. true≢false (sym (subst (λ x. is_source_byte x ≡ true) colon passes))) source
-    (AllPass-from_list_all is_source_byte source (and_parts (nat_lt 0 (length source)) (list_all is_source_byte source) h).1)
+    All-weaker (λ b. is_query_byte b ≡ true) (λ b. b ≢ 58)
+    (λ b passes colon. true≢false (sym (subst (λ x. is_query_byte x ≡ true) colon passes))) source
+    (AllPass-from_list_all is_query_byte source (and_parts (nat_lt 0 (length source)) (list_all is_query_byte source) h).1)
 
 query_by : (line words source : List ℕ) (parts more : List ℕ × List ℕ) (version : ℕ) (ask : Ask) → behind_flag line ≡ Some words
     → parted_at 58 words ≡ Some parts → source_of parts.0 ≡ Some source → parted_at 58 parts.1 ≡ Some more
@@ -148,7 +148,7 @@ query_read line q h =
     query_by line words q.source (q.source, behind) (decimal q.version, serials) q.version q.ask
     (ap behind_flag h.text ∙ flag_read words)
     (parted_here 58 q.source behind (source_free q.source h.source))
-    (cond-true (is_source q.source) (Some q.source) None h.source)
+    (cond-true (is_query_source q.source) (Some q.source) None h.source)
     (parted_here 58 (decimal q.version) serials (decimal_free 58 q.version (omega arith) h.version))
     (number_value q.version (decimal q.version) refl h.version)
     (serials_read q.ask h.first h.last)

@@ -1,5 +1,6 @@
 -- What is answered to an ask, by the operations that a board keeps.
-use Rattle.std.specs.Prelude.{ℕ, ◌+◌, ◌==◌, Bool, true, false, ◌&&◌, nat_le, if◌then◌else◌, List, ◌++◌, filter, codes, decimal, Option, None, Some}
+use Rattle.std.specs.Prelude.{ℕ, ◌+◌, ◌==◌, Bool, not, ◌&&◌, nat_le, if◌then◌else◌, List, ◌++◌, filter, codes, decimal, Option, None, Some}
+use Rattle.std.specs.Option.{is_some}
 use Rattle.reg_entry.specs.Op.{PlainOp}
 use Rattle.reg_entry.specs.Operations.{PlainBoard}
 use Rattle.board.specs.declared.lens.Answer.{Answer}
@@ -13,18 +14,14 @@ abbrev pub last_asked : ℕ → Option ℕ → ℕ
 last_asked serial None = serial
 last_asked serial (Some last) = last
 
-abbrev pub is_word : Option ℕ → Bool
-is_word None = true
-is_word (Some last) = false
-
--- all behind the register's last operation is asked for
+-- all behind the register's last operation is asked for, whatever that is
 abbrev pub asks_for_newer : PlainBoard → Ask → Bool
-asks_for_newer b ask = is_word ask.last && ask.first == b.serial + 1
+asks_for_newer b ask = not (is_some ask.last) && ask.first == b.serial + 1
 
 abbrev pub is_kept : PlainBoard → ℕ → Bool
 is_kept b serial = nat_le (first_kept b) serial && nat_le serial b.serial
 
--- the serials rise, and both are kept
+-- the first is at most the last, and both are kept
 abbrev pub are_kept : PlainBoard → ℕ → ℕ → Bool
 are_kept b first last = nat_le first last && is_kept b first && is_kept b last
 

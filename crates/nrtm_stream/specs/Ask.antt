@@ -6,7 +6,7 @@ use Rattle.addr_text.specs.Reading.{◌>>=◌, parted_at, decimal_up_to}
 use Rattle.nrtm_stream.specs.declared.ask.Ask.{Ask}
 use Rattle.nrtm_stream.specs.declared.ask.AskFault.{AskFault}
 use Rattle.nrtm_stream.specs.declared.ask.AskFault.TheVariants.{Malformed, Version, Source}
-use Rattle.nrtm_stream.specs.Query.{PlainQuery, is_source, SpellsQuery}
+use Rattle.nrtm_stream.specs.Query.{PlainQuery, is_query_source, SpellsQuery}
 
 -- ---- a line as it is read
 
@@ -15,7 +15,7 @@ abbrev pub behind_flag : List ℕ → Option (List ℕ)
 behind_flag line = if bytes_eq (take 3 line) (codes "-g ") then Some (drop 3 line) else None
 
 abbrev pub source_of : List ℕ → Option (List ℕ)
-source_of text = if is_source text then Some text else None
+source_of text = if is_query_source text then Some text else None
 
 -- a decimal number of 64 bits, without sign or leading zero
 abbrev pub number_of : List ℕ → Option ℕ

@@ -9,11 +9,11 @@ pub record PlainQuery : Type 0 where
   pub ask : Ask
 
 -- neither a blank nor a tab, nor the `:` that parts the words
-abbrev pub is_source_byte : ℕ → Bool
-is_source_byte b = not (b == 32 || b == 9 || b == 58)
+abbrev pub is_query_byte : ℕ → Bool
+is_query_byte b = not (b == 32 || b == 9 || b == 58)
 
-abbrev pub is_source : List ℕ → Bool
-is_source source = nat_lt 0 (length source) && list_all is_source_byte source
+abbrev pub is_query_source : List ℕ → Bool
+is_query_source source = nat_lt 0 (length source) && list_all is_query_byte source
 
 -- the last serial, or the word that stands for the register's last
 abbrev pub last_text : Option ℕ → List ℕ
@@ -34,7 +34,7 @@ IsSerial (Some serial) = serial < 2 ^ 64
 -- the line asks for this; its numbers have 64 bits
 pub record SpellsQuery (line : List ℕ) (q : PlainQuery) : Type 0 where
   pub text : line ≡ query_text q
-  pub source : IsTrue (is_source q.source)
+  pub source : IsTrue (is_query_source q.source)
   pub version : q.version < 2 ^ 64
   pub first : q.ask.first < 2 ^ 64
   pub last : IsSerial q.ask.last

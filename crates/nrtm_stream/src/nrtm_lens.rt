@@ -28,7 +28,7 @@ fn capitals(registry: &Name) -> ArrayVec<u8, 24>
     source
 }
 
-/// Whether the serials rise, and both are kept.
+/// Whether the first is at most the last, and both are kept.
 fn are_kept(board: &Board, first: u64, last: u64) -> bool
     ensures { result ≡ are_kept board.now first last }
 {
@@ -64,12 +64,7 @@ fn asks_for_newer(board: &Board, ask: Ask) -> bool
     ask.last.is_none() && last_kept.checked_add(1) == Some(ask.first)
 }
 
-fn stream_answer(
-    alloc: Global,
-    board: &Board,
-    source: &[u8],
-    ask: Ask,
-) -> Result<Body, AllocError>
+fn stream_answer(alloc: Global, board: &Board, source: &[u8], ask: Ask) -> Result<Body, AllocError>
     ensures { IfOk result (λ body. body ≡ stream_answer board.now source.now ask) }
 {
     if asks_for_newer(board, ask) {

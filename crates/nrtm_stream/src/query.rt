@@ -2,7 +2,7 @@
 ghost use Rattle.std.specs.Prelude.{◌≡◌};
 ghost use Rattle.std.specs.Option.{option_copied};
 ghost use Rattle.std.specs.List.{list_all};
-ghost use Rattle.nrtm_stream.specs.Query.{is_source_byte, is_source};
+ghost use Rattle.nrtm_stream.specs.Query.{is_query_byte, is_query_source};
 ghost use Rattle.nrtm_stream.specs.Ask.{behind_flag, source_of, last_of, serials_of, query_of, ask_of, IsAskedOf};
 
 use crate::laws::queries_are_spelled;
@@ -36,28 +36,32 @@ fn behind_flag(line: &[u8]) -> Option<&[u8]>
     }
 }
 
-fn is_source_byte(b: u8) -> bool
-    ensures { result ≡ is_source_byte b }
+fn is_query_byte(b: u8) -> bool
+    ensures { result ≡ is_query_byte b }
 {
     !matches!(b, b' ' | b'\t' | b':')
 }
 
-fn are_source_bytes(text: &[u8]) -> bool
-    ensures { result ≡ list_all is_source_byte text.now }
+fn are_query_bytes(text: &[u8]) -> bool
+    ensures { result ≡ list_all is_query_byte text.now }
 {
-    text.iter().all(|b| is_source_byte(*b))
+    text.iter().all(|b| is_query_byte(*b))
 }
 
-fn is_source(text: &[u8]) -> bool
-    ensures { result ≡ is_source text.now }
+fn is_query_source(text: &[u8]) -> bool
+    ensures { result ≡ is_query_source text.now }
 {
-    !text.is_empty() && are_source_bytes(text)
+    !text.is_empty() && are_query_bytes(text)
 }
 
 fn source_of(text: &[u8]) -> Option<&[u8]>
     ensures { option_copied result ≡ source_of text.now }
 {
-    if is_source(text) { Some(text) } else { None }
+    if is_query_source(text) {
+        Some(text)
+    } else {
+        None
+    }
 }
 
 fn read_last(text: &[u8]) -> Option<Option<u64>>

@@ -90,12 +90,7 @@ fn append_operations(
 }
 
 /// Appends the line with which a stream begins, and an empty one.
-fn append_start(
-    source: &[u8],
-    first: u64,
-    last: u64,
-    body: &mut Body,
-) -> Result<(), AllocError>
+fn append_start(source: &[u8], first: u64, last: u64, body: &mut Body) -> Result<(), AllocError>
     ensures { OnOk result (body.new ≡ body.old
         ++ (codes "%START Version: 3 " ++ source.now ++ codes " " ++ decimal first ++ codes "-" ++ decimal last ++ codes "\n\n")) }
 {

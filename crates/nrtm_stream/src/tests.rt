@@ -3,7 +3,7 @@
 ghost use Rattle.std.specs.Prelude.{◌≤◌};
 ghost use Rattle.reg_entry.specs.Rooms.{AreRooms};
 
-use crate::{Ask, NrtmLens, error_line, read_ask};
+use crate::{NrtmLens, error_line, read_ask};
 use board::{Answer, Board, Lens, Media};
 use num_range::{Range, Space};
 use reg_entry::{
@@ -49,13 +49,14 @@ const READ: &str = "-g EXREG:3:1-LAST=>1-LAST
 |=>malformed query";
 
 fn shown(alloc: Global, line: &str) -> Result<String, Fail> {
-    Ok(match read_ask(line.as_bytes(), b"EXREG") {
-        Ok(Ask {
-            first,
-            last: Some(last),
-        }) => format!(in alloc; "{first}-{last}")?,
-        Ok(Ask { first, last: None }) => format!(in alloc; "{first}-LAST")?,
-        Err(fault) => format!(in alloc; "{fault}")?,
+    let ask = match read_ask(line.as_bytes(), b"EXREG") {
+        Ok(ask) => ask,
+        Err(fault) => return Ok(format!(in alloc; "{fault}")?),
+    };
+    let first = ask.first;
+    Ok(match ask.last {
+        Some(last) => format!(in alloc; "{first}-{last}")?,
+        None => format!(in alloc; "{first}-LAST")?,
     })
 }
 
@@ -269,7 +270,8 @@ fn is_answered(
     let answer = looked(&lens, alloc, board)?;
     Ok(
         answer.body.bytes() == text.as_bytes()
-            && (answer.status, answer.media, answer.entries) == (200, Media::Plain, board.entries()),
+            && (answer.status, answer.media, answer.entries)
+                == (200, Media::Plain, board.entries()),
     )
 }
 
@@ -321,7 +323,10 @@ fn all_operations_are_streamed(rt: HostRuntime) -> Result<(), Fail> {
 
 #[test]
 fn last_operations_are_streamed(rt: HostRuntime) -> Result<(), Fail> {
-    assert_eq!(rt; first_unanswered(rt.alloc(), NARROW, 3, NARROW_ANSWERS)?, None);
+    assert_eq!(rt;
+        first_unanswered(rt.alloc(), NARROW, 3, NARROW_ANSWERS)?,
+        None
+    );
     Ok(())
 }
 
