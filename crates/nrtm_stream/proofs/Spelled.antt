@@ -1,5 +1,5 @@
 -- What is read of a line is what it spells.
-use Rattle.std.proofs.Common.{◌≡◌, ◌≢◌, ℕ, ◌^◌, ◌<◌, ◌==◌, Bool, true, false, not, if◌then◌else◌, nat_lt, length, List, [], ◌∷◌, ◌++◌, take, drop, All, Option, Some, None, Ok, Err, IsTrue, decimal, codes, inl, inr, refl, sym, ap, ap₂, ◌∙◌, subst, arith, take-append-drop, true≢false}
+use Rattle.std.proofs.Common.{◌≡◌, ◌≢◌, ℕ, ◌^◌, ◌<◌, ◌==◌, Bool, true, false, not, if◌then◌else◌, nat_lt, length, List, ◌∷◌, ◌++◌, take, drop, All, Option, Some, None, Ok, Err, IsTrue, decimal, codes, inl, inr, refl, sym, ap, ap₂, ◌∙◌, subst, arith, take-append-drop, true≢false}
 use Rattle.std.proofs.lemmas.Bool.{cases_Bool, cond-true, cond-false, and_parts, eq-eqb, eqb-true}
 use Rattle.std.proofs.lemmas.List.Elements.{All-head, All-same, All-weaker}
 use Rattle.std.proofs.lemmas.List.Sums.{AllPass-from_list_all}
@@ -7,11 +7,11 @@ use Rattle.std.specs.List.{list_all}
 use Rattle.std.specs.Str.{bytes_eq}
 use Rattle.std.proofs.lemmas.Option.{cond_some, option_and_then_some, none-some, same_Some}
 use Rattle.std.proofs.lemmas.Slice.Eq.{bytes_eq-Decides}
-use Rattle.std.specs.Option.{option_map, option_and_then}
+use Rattle.std.specs.Option.{option_map}
 use Rattle.addr_text.specs.Reading.{parted_at}
 use Rattle.nrtm_stream.specs.declared.ask.Ask.{Ask}
 use Rattle.nrtm_stream.specs.declared.ask.AskFault.TheVariants.{Version, Source}
-use Rattle.nrtm_stream.specs.Query.{PlainQuery, is_query_byte, is_query_source, last_text, serials_text, query_text, IsSerial, SpellsQuery}
+use Rattle.nrtm_stream.specs.Query.{PlainQuery, is_query_byte, is_query_source, last_text, serials_text, IsSerial, SpellsQuery}
 use Rattle.nrtm_stream.specs.Ask.{behind_flag, source_of, number_of, last_of, serials_of, query_of, ask_to, ask_of, IsAskedOf}
 use Rattle.nrtm_stream.proofs.Numbers.{number_value, number_spelled, decimal_free}
 use Rattle.nrtm_stream.proofs.Parted.{parted_here, parted_text}

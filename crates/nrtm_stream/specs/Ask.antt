@@ -1,6 +1,6 @@
 -- What a line asks of a source's stream, or the first reason why it may not.
-use Rattle.std.specs.Prelude.{◌≡◌, ◌≢◌, ℕ, ◌-◌, ◌^◌, ◌==◌, ◌&&◌, Bool, not, if◌then◌else◌, List, take, drop, codes, Option, None, Some, Result, Ok, Err}
-use Rattle.std.specs.Option.{option_map, option_and_then}
+use Rattle.std.specs.Prelude.{◌≡◌, ◌≢◌, ℕ, ◌-◌, ◌^◌, ◌==◌, not, if◌then◌else◌, List, take, drop, codes, Option, None, Some, Result, Ok, Err}
+use Rattle.std.specs.Option.{option_map}
 use Rattle.std.specs.Str.{bytes_eq}
 use Rattle.addr_text.specs.Reading.{◌>>=◌, parted_at, decimal_up_to}
 use Rattle.nrtm_stream.specs.declared.ask.Ask.{Ask}

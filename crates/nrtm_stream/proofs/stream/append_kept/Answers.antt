@@ -1,6 +1,5 @@
-use Rattle.std.proofs.Common.{◌≡◌, ◌+◌, ◌++◌, List, ◌∷◌, Some, find, sym, ap, ◌∙◌, append_assoc}
+use Rattle.std.proofs.Common.{◌+◌, ◌++◌, sym, ap, ◌∙◌, append_assoc}
 use Rattle.std.specs.List.{flat_map}
-use Rattle.reg_entry.specs.Op.{PlainOp}
 use Rattle.reg_entry.specs.Operations.{PlainBoard}
 use Rattle.op_feed.specs.ReachedBoard.{first_kept}
 use Rattle.nrtm_stream.specs.Stream.{operation_text}

@@ -1,4 +1,4 @@
-use Rattle.std.proofs.Common.{◌≡◌, ◌+◌, ◌<◌, ◌++◌, ℕ, List, [], sym, ap, ◌∙◌, append-nil, arith}
+use Rattle.std.proofs.Common.{◌≡◌, ◌+◌, ◌<◌, ◌++◌, ℕ, List, sym, ap, ◌∙◌, append-nil, arith}
 use Rattle.std.specs.List.{flat_map}
 use Rattle.reg_entry.specs.Operations.{PlainBoard}
 use Rattle.nrtm_stream.specs.Stream.{operation_text}
