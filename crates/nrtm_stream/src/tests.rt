@@ -1,6 +1,5 @@
 //! Lines that are read, by a table; and what a register of three entries answers to them, against texts by hand. The range is
 //! 192.0.2.0/24 (RFC 5737).
-ghost use Rattle.std.specs.Prelude.{◌≤◌};
 ghost use Rattle.reg_entry.specs.Rooms.{AreRooms};
 
 use crate::{NrtmLens, error_line, read_ask};
@@ -285,7 +284,7 @@ fn first_wrong(
     let Some(registry) = Name::read(b"exreg") else {
         return Ok(Some("registry"));
     };
-    for seq in 1..entries + 1 {
+    for seq in 1..=entries {
         if taken(board, seq).is_none() {
             return Ok(Some("entry"));
         }
@@ -308,8 +307,7 @@ fn first_unanswered(
     entries: u64,
     table: &'static str,
 ) -> Result<Option<&'static str>, AllocError>
-    requires rooms { AreRooms rooms }
-    requires entries { entries ≤ 3 }
+    requires { AreRooms rooms }
 {
     let mut board = Board::with_room(alloc, rooms)?;
     first_wrong(alloc, &mut board, entries, table)
