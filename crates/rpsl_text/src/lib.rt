@@ -14,4 +14,4 @@ mod write;
 pub use attrs::{Attrs, PairWalk};
 pub use fault::RpslFault;
 pub use read::read_object;
-pub use write::write_object;
+pub use write::{append_object, write_object};

@@ -170,14 +170,23 @@ fn append_own(o: &Object, body: &mut Body) -> Result<(), AllocError>
     }
 }
 
-/// Writes the object as the register named by the source publishes it: its class with its key first, the source last, a
-/// line each (RFC 2622 2). It takes memory for the text alone, and fails without that.
+/// Appends the object as the register named by the source publishes it: its class with its key first, the source last, a
+/// line each (RFC 2622 2). Where there is no memory for all of the text, some of it may stand in the body.
+pub fn append_object(o: &Object, source: &[u8], body: &mut Body) -> Result<(), AllocError>
+    requires { HasDates o.now }
+    ensures { OnOk result (body.new ≡ body.old ++ object_text o.now source.now) }
+{
+    append_own(o, body)?;
+    append_attribute(b"source", source, body)?;
+    Ok(())
+}
+
+/// Writes the object's text alone, as `append_object` does. It takes memory for the text, and fails without that.
 pub fn write_object(alloc: Global, o: &Object, source: &[u8]) -> Result<Body, AllocError>
     requires { HasDates o.now }
     ensures { IfOk result (λ body. body ≡ object_text o.now source.now) }
 {
     let mut body = Body::new(alloc);
-    append_own(o, &mut body)?;
-    append_attribute(b"source", source, &mut body)?;
+    append_object(o, source, &mut body)?;
     Ok(body)
 }

@@ -1,0 +1,4 @@
+pub mod Stream
+pub mod Query
+pub mod Ask
+pub mod Answer

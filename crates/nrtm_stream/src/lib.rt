@@ -1,0 +1,15 @@
+//! The change stream: what is asked of it, and what is answered (NRTM version 3).
+#![tactic(auto)]
+
+mod ask;
+pub mod laws;
+mod nrtm_lens;
+mod number;
+mod query;
+mod stream;
+#[cfg(test)]
+mod tests;
+
+pub use ask::{Ask, AskFault, error_line};
+pub use nrtm_lens::NrtmLens;
+pub use query::read_ask;
