@@ -1,0 +1,7 @@
+pub mod Keys
+pub mod Objects
+pub mod Mirror
+pub mod Framing
+pub mod Draft
+pub mod Line
+pub mod Feed
