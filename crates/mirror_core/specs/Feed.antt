@@ -22,9 +22,11 @@ abbrev pub behind_line : PlainMirror → ℕ → Result PlainMirror FeedFault �
 behind_line m count (Ok after) = at_line after [] (later m.place count)
 behind_line m count (Err fault) = broken m count fault
 
--- a line ends with LF or CR LF
+-- a line ends with LF or CR LF; it is taken out of what is held, and then says what it says
 abbrev pub with_line_end : PlainMirror → PlainMirror
-with_line_end m = behind_line m (length m.line + 1) (after_line m (strip_carriage_return m.line))
+with_line_end m =
+    let standing = at_line m [] m.place in
+    behind_line standing (length m.line + 1) (after_line standing (strip_carriage_return m.line))
 
 abbrev pub with_line_byte : PlainMirror → ℕ → PlainMirror
 with_line_byte m b =

@@ -9,7 +9,7 @@ use Rattle.num_range.specs.Space.{same_space, width_of}
 use Rattle.num_range.specs.Range.{PlainRange}
 use Rattle.num_range.specs.Block.{block_of}
 use Rattle.num_range.specs.Cover.{is_cut_length}
-use Rattle.addr_text.specs.Reading.{parted_at, decimal_up_to, number_of, range_between, whole_block_of}
+use Rattle.addr_text.specs.Reading.{◌>>=◌, parted_at, decimal_up_to, number_of, range_between, whole_block_of}
 use Rattle.reg_entry.specs.declared.object.Key.{Key}
 use Rattle.reg_entry.specs.declared.object.Key.TheVariants.{Org, Block, Sub, Cut}
 use Rattle.reg_entry.specs.Handle.{is_handle}
@@ -94,18 +94,29 @@ pub record Class : Type 0 where
 abbrev pub handle_key : List ℕ → Option Key
 handle_key text = if is_handle text then Some (Org text) else None
 
+abbrev pub organisation : Class
+organisation = record { name = codes "organisation"; key = handle_key }
+
+abbrev pub as_block : Class
+as_block = record { name = codes "as-block"; key = λ text. option_map Block (range_key_in Asn text) }
+
+abbrev pub inetnum : Class
+inetnum = record { name = codes "inetnum"; key = λ text. option_map Block (range_key_in Ipv4 text) }
+
+abbrev pub inet6num : Class
+inet6num = record { name = codes "inet6num"; key = λ text. option_map Block (range_key_in Ipv6 text) }
+
+abbrev pub sub_assignment : Class
+sub_assignment = record { name = codes "sub-assignment"; key = λ text. option_map Sub (range_key text) }
+
+abbrev pub domain : Class
+domain = record { name = codes "domain"; key = λ text. option_map Cut (cut_of text) }
+
 abbrev pub classes : List Class
-classes =
-    record { name = codes "organisation"; key = handle_key }
-    ∷ record { name = codes "as-block"; key = λ text. option_map Block (range_key_in Asn text) }
-    ∷ record { name = codes "inetnum"; key = λ text. option_map Block (range_key_in Ipv4 text) }
-    ∷ record { name = codes "inet6num"; key = λ text. option_map Block (range_key_in Ipv6 text) }
-    ∷ record { name = codes "sub-assignment"; key = λ text. option_map Sub (range_key text) }
-    ∷ record { name = codes "domain"; key = λ text. option_map Cut (cut_of text) }
-    ∷ []
+classes = organisation ∷ as_block ∷ inetnum ∷ inet6num ∷ sub_assignment ∷ domain ∷ []
 
 abbrev pub class_named : List ℕ → Option Class
-class_named name = find (λ class. bytes_eq class.name name) classes
+class_named name = find (λ class. bytes_eq name class.name) classes
 
 abbrev pub is_class : List ℕ → Bool
 is_class name = is_some (class_named name)

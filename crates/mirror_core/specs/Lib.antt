@@ -1,4 +1,5 @@
 pub mod Keys
+pub mod Rows
 pub mod Objects
 pub mod Mirror
 pub mod Framing

@@ -2,6 +2,9 @@
 #![tactic(auto)]
 
 mod fault;
+mod keys;
 pub mod laws;
+mod names;
 
 pub use fault::FeedFault;
+pub use keys::{is_class, key_of_attribute};
