@@ -6,3 +6,5 @@ pub mod Framing
 pub mod Draft
 pub mod Line
 pub mod Feed
+pub mod Replica
+pub mod Fed

@@ -1,5 +1,6 @@
 -- A map from keys to attributes: a list that rises by key.
 use Rattle.std.specs.Prelude.{ℕ, Bool, not, ◌&&◌, if◌then◌else◌, List, [], ◌∷◌, ◌++◌, filter, codes}
+use Rattle.std.specs.Borrow.{Bor}
 use Rattle.std.specs.List.{flat_map}
 use Rattle.reg_entry.specs.declared.object.Key.{Key}
 use Rattle.reg_entry.specs.declared.object.Act.{Act}
@@ -32,3 +33,7 @@ mirrored source o = (key_of o, plain_attributes o source)
 -- the objects as text, each with an empty line behind it
 abbrev pub objects_text : List (Key × List (List ℕ × List ℕ)) → List ℕ
 objects_text os = flat_map (λ o. attributes_text o.1 ++ codes "\n") os
+
+-- what a walk lends of an object: its key and its attributes
+abbrev pub lent_object : Bor Key × Bor (List (List ℕ × List ℕ)) → Key × List (List ℕ × List ℕ)
+lent_object lent = (lent.0.now, lent.1.now)

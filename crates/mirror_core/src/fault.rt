@@ -1,3 +1,7 @@
+ghost use Rattle.std.specs.Prelude.{◌≡◌};
+ghost use Rattle.mirror_core.specs.declared.fault.FeedFault.TheVariants.{NoMemory as TheNoMemory};
+
+use std::alloc::AllocError;
 use thiserror::Error;
 
 /// Why a mirror takes nothing more. A place is the offset of a line's first byte in all that was fed, from 0; from 2^64 - 1 on
@@ -21,4 +25,12 @@ pub enum FeedFault {
     Announced { place: u64 },
     #[error("NoMemory")]
     NoMemory,
+}
+
+impl From<AllocError> for FeedFault {
+    ghost from_gives = { λ _ e. e ≡ TheNoMemory };
+
+    fn from(_e: AllocError) -> FeedFault {
+        FeedFault::NoMemory
+    }
 }

@@ -139,14 +139,14 @@ fn key_in(class: ClassName, value: &[u8]) -> Option<Key>
 }
 
 /// Whether the register has objects of this class.
-pub fn is_class(name: &[u8]) -> bool
+pub(crate) fn is_class(name: &[u8]) -> bool
     ensures { result ≡ is_class name.now }
 {
     class_named(name).is_some()
 }
 
 /// The key of an object whose first attribute this is.
-pub fn key_of_attribute(name: &[u8], value: &[u8]) -> Option<Key>
+pub(crate) fn key_of_attribute(name: &[u8], value: &[u8]) -> Option<Key>
     ensures { result ≡ key_of_attribute (name.now, value.now) }
 {
     key_in(class_named(name)?, value)
