@@ -6,3 +6,4 @@ pub mod KeyOrder
 pub mod Sources
 pub mod Serials
 pub mod Attributes
+pub mod Feeding

@@ -1,9 +1,11 @@
 -- What is answered to a feed.
-use Rattle.std.specs.Prelude.{◌≡◌, ◌⊎◌, ℕ, List, ◌++◌, Option, None, Some, Result, Ok, Err}
+use Rattle.std.specs.Prelude.{◌≡◌, ◌⊎◌, ℕ, ◌-◌, ◌^◌, ◌≤◌, Bool, false, List, [], ◌++◌, IfSome, Option, None, Some, Result, Ok, Err}
 use Rattle.mirror_core.specs.declared.fault.FeedFault.{FeedFault}
 use Rattle.mirror_core.specs.declared.fault.FeedFault.TheVariants.{Spelling, Gap, ForeignSource, ClassOut, Announced, NoMemory}
 use Rattle.mirror_core.specs.Mirror.{PlainMirror, broken}
-use Rattle.mirror_core.specs.Feed.{fed}
+use Rattle.mirror_core.specs.Line.{is_too_long}
+use Rattle.mirror_core.specs.Feed.{at_line, fed}
+use Rattle.mirror_core.specs.Replica.{PlainReplica}
 
 -- the mirror that was fed the bytes, with this fault or none
 abbrev pub IsFedWith : PlainMirror → List ℕ → PlainMirror → Option FeedFault → Type 0
@@ -27,3 +29,17 @@ IsFed old bytes new (Err (ForeignSource place)) = IsFedWith old bytes new (Some 
 IsFed old bytes new (Err (ClassOut place)) = IsFedWith old bytes new (Some (ClassOut place))
 IsFed old bytes new (Err (Announced place)) = IsFedWith old bytes new (Some (Announced place))
 IsFed old bytes new (Err NoMemory) = IsFedWith old bytes new (Some NoMemory) ⊎ IsOutOfMemory old bytes new
+
+-- the mirror with more bytes of its line
+abbrev pub holding : PlainMirror → List ℕ → PlainMirror
+holding m more = at_line m (m.line ++ more) m.place
+
+-- what holds of every mirror: its line isn't too long, and after a fault there is neither a line nor a stream
+pub record IsSound (r : PlainReplica) (line : List ℕ) (fault : Option FeedFault) : Type 0 where
+  pub short : is_too_long line ≡ false
+  pub stopped : IfSome fault (λ _. (r.stream ≡ None) × (line ≡ []))
+
+-- the same as those who feed it see
+pub record IsStill (m : PlainMirror) : Type 0 where
+  pub stopped : IfSome m.fault (λ _. (m.stream ≡ None) × (m.line ≡ []))
+  pub fits : m.place ≤ 2 ^ 64 - 1

@@ -67,3 +67,15 @@ in_stream m stream = record {
   place = m.place;
   fault = m.fault;
 }
+
+-- so many bytes later, none of which said anything
+abbrev pub passed : PlainMirror → ℕ → PlainMirror
+passed m count = record {
+  source = m.source;
+  objects = m.objects;
+  serial = m.serial;
+  stream = m.stream;
+  line = m.line;
+  place = later m.place count;
+  fault = m.fault;
+}

@@ -1,11 +1,14 @@
 -- What a mirror has between lines.
-use Rattle.std.specs.Prelude.{◌≡◌, ◌⊎◌, ℕ, Bool, false, not, List, [], ◌∷◌, Option, None, Some, Result, Ok, Err}
+use Rattle.std.specs.Prelude.{◌≡◌, ◌⊎◌, ℕ, ◌+◌, Bool, false, not, List, [], ◌∷◌, length, Option, None, Some, Result, Ok, Err}
+use Rattle.std.specs.Str.Lines.{strip_carriage_return}
 use Rattle.rpsl_text.specs.Attributes.{last_of}
 use Rattle.reg_entry.specs.declared.object.Key.{Key}
 use Rattle.mirror_core.specs.declared.draft.Serials.{Serials}
 use Rattle.mirror_core.specs.declared.fault.FeedFault.{FeedFault}
 use Rattle.mirror_core.specs.declared.fault.FeedFault.TheVariants.{Spelling, Gap, ForeignSource, ClassOut, Announced, NoMemory}
-use Rattle.mirror_core.specs.Mirror.{PlainMirror, PlainStream, PlainDraft}
+use Rattle.mirror_core.specs.Mirror.{PlainMirror, PlainStream, PlainDraft, broken}
+use Rattle.mirror_core.specs.Line.{after_line}
+use Rattle.mirror_core.specs.Feed.{behind_line}
 use Rattle.mirror_core.specs.Keys.{is_class}
 
 pub record PlainReplica : Type 0 where
@@ -73,6 +76,15 @@ IsFaultOf said NoMemory = Unit {0}
 abbrev pub IsAfter : Result PlainMirror FeedFault → PlainReplica → PlainReplica → Result (Unit {0}) FeedFault → Type 0
 IsAfter said r after (Ok _) = said ≡ Ok (standing after)
 IsAfter said r after (Err fault) = IsFaultOf said fault × IsKept r after
+
+-- what is answered to a whole line without its LF, and what is there then: the place is the next line's, and after a fault there
+-- is no stream
+abbrev pub IsBehind : PlainReplica → List ℕ → PlainReplica → Result (Unit {0}) FeedFault → Type 0
+IsBehind r line after (Ok _) =
+    standing after ≡ behind_line (standing r) (length line + 1) (after_line (standing r) (strip_carriage_return line))
+IsBehind r line after (Err fault) =
+    IsFaultOf (after_line (standing r) (strip_carriage_return line)) fault
+    × (mirror_with after [] (Some fault) ≡ broken (standing r) (length line + 1) fault)
 
 -- ---- an object's lines
 

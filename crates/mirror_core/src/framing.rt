@@ -86,7 +86,8 @@ impl Replica {
 
     /// The stream's next operation begins.
     fn begin_operation(&mut self, act: Act, serial: u64) -> Result<(), FeedFault>
-        ensures { IsAfter (begun (standing self.old) (act, serial) self.old.stream) self.old self.new result }
+        ensures said { IsAfter (begun (standing self.old) (act, serial) self.old.stream) self.old self.new result}
+        ensures place { self.new.place ≡ self.old.place }
     {
         match self.serials() {
             Some(serials) if u128::from(serial) == serials.next && serial <= serials.last => {
@@ -101,7 +102,8 @@ impl Replica {
     }
 
     fn operation_line(&mut self, line: &[u8]) -> Result<(), FeedFault>
-        ensures { IsAfter (operation_line (standing self.old) (words line.now)) self.old self.new result }
+        ensures said { IsAfter (operation_line (standing self.old) (words line.now)) self.old self.new result}
+        ensures place { self.new.place ≡ self.old.place }
     {
         match operation_of(line) {
             Some((act, serial)) => self.begin_operation(act, serial),
@@ -133,7 +135,8 @@ impl Replica {
 
     /// A line outside an object.
     pub(crate) fn outside_line(&mut self, line: &[u8]) -> Result<(), FeedFault>
-        ensures { IsAfter (outside_line (standing self.old) line.now) self.old self.new result }
+        ensures said { IsAfter (outside_line (standing self.old) line.now) self.old self.new result}
+        ensures place { self.new.place ≡ self.old.place }
     {
         match line {
             [] => Ok(()),

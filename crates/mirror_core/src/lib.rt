@@ -6,6 +6,7 @@ mod fault;
 mod framing;
 mod keys;
 pub mod laws;
+mod mirror;
 mod names;
 mod object_lines;
 mod objects;
@@ -14,4 +15,5 @@ mod serial;
 mod words;
 
 pub use fault::FeedFault;
+pub use mirror::Mirror;
 pub use objects::{ObjectWalk, Objects, append_attributes};

@@ -53,8 +53,9 @@ impl Replica {
     /// A line that goes on with the last attribute's value.
     fn value_line(&mut self, serials: Serials, draft: Draft, line: &[u8]) -> Result<(), FeedFault>
         requires serials { serials.next ≤ serials.last }
-        ensures { let s = stream_with serials draft in (text : List ℕ) → continuation_of line.now ≡ Some text
-            → IsAfter (goes_on (standing_in self.old s) s draft text) self.old self.new result }
+        ensures said { let s = stream_with serials draft in (text : List ℕ) → continuation_of line.now ≡ Some text
+            → IsAfter (goes_on (standing_in self.old s) s draft text) self.old self.new result}
+        ensures place { self.new.place ≡ self.old.place }
     {
         let Draft {
             act,
@@ -85,7 +86,8 @@ impl Replica {
     fn attribute_line(&mut self, serials: Serials, draft: Draft, line: &[u8]) -> Result<(), FeedFault>
         requires serials { serials.next ≤ serials.last }
         requires anew { continuation_of line.now ≡ None }
-        ensures { let s = stream_with serials draft in IsAfter (attribute_line (standing_in self.old s) s draft line.now) self.old self.new result }
+        ensures said { let s = stream_with serials draft in IsAfter (attribute_line (standing_in self.old s) s draft line.now) self.old self.new result}
+        ensures place { self.new.place ≡ self.old.place }
     {
         let Draft {
             act,
@@ -117,7 +119,8 @@ impl Replica {
 
     /// A `%` line can't stand in an operation.
     fn percent_inside(&mut self, line: &[u8]) -> Result<(), FeedFault>
-        ensures { IsAfter (percent_inside (standing self.old) line.now) self.old self.new result }
+        ensures said { IsAfter (percent_inside (standing self.old) line.now) self.old self.new result}
+        ensures place { self.new.place ≡ self.old.place }
     {
         self.percent_line(line)?;
         Err(self.spelling())
@@ -127,7 +130,8 @@ impl Replica {
     fn new_line(&mut self, serials: Serials, draft: Draft, first: u8, line: &[u8]) -> Result<(), FeedFault>
         requires serials { serials.next ≤ serials.last }
         requires anew { continuation_of line.now ≡ None }
-        ensures { let s = stream_with serials draft in IsAfter (new_line (standing_in self.old s) s draft first line.now) self.old self.new result }
+        ensures said { let s = stream_with serials draft in IsAfter (new_line (standing_in self.old s) s draft first line.now) self.old self.new result}
+        ensures place { self.new.place ≡ self.old.place }
     {
         if let Some(fault) = draft.attribute_fault(self.source.as_slice()) {
             return Err(fault);
@@ -145,7 +149,8 @@ impl Replica {
     /// The stream's next operation is applied, unless it was before.
     fn apply(&mut self, serials: Serials, draft: Draft, key: Key) -> Result<(), FeedFault>
         requires { serials.next ≤ serials.last }
-        ensures { let s = stream_with serials draft in IsAfter (Ok (applied (standing_in self.old s) s draft key)) self.old self.new result }
+        ensures said { let s = stream_with serials draft in IsAfter (Ok (applied (standing_in self.old s) s draft key)) self.old self.new result}
+        ensures place { self.new.place ≡ self.old.place }
     {
         self.stream = Some(Stream {
             serials: Serials {
@@ -167,7 +172,8 @@ impl Replica {
     /// The empty line behind an object.
     fn whole_object(&mut self, serials: Serials, draft: Draft) -> Result<(), FeedFault>
         requires { serials.next ≤ serials.last }
-        ensures { let s = stream_with serials draft in IsAfter (whole_object (standing_in self.old s) s draft (object_key draft.attributes)) self.old self.new result }
+        ensures said { let s = stream_with serials draft in IsAfter (whole_object (standing_in self.old s) s draft (object_key draft.attributes)) self.old self.new result}
+        ensures place { self.new.place ≡ self.old.place }
     {
         match object_key(&draft.attributes) {
             Some(key) if has_source(&draft.attributes) => self.apply(serials, draft, key),
@@ -177,7 +183,8 @@ impl Replica {
 
     fn empty_line(&mut self, serials: Serials, draft: Draft) -> Result<(), FeedFault>
         requires { serials.next ≤ serials.last }
-        ensures { let s = stream_with serials draft in IsAfter (empty_line (standing_in self.old s) s draft) self.old self.new result }
+        ensures said { let s = stream_with serials draft in IsAfter (empty_line (standing_in self.old s) s draft) self.old self.new result}
+        ensures place { self.new.place ≡ self.old.place }
     {
         if draft.lines == 0 {
             self.stream = Some(Stream {
@@ -195,7 +202,8 @@ impl Replica {
     /// A line behind an act.
     pub(crate) fn object_line(&mut self, serials: Serials, draft: Draft, line: &[u8]) -> Result<(), FeedFault>
         requires { serials.next ≤ serials.last }
-        ensures { let s = stream_with serials draft in IsAfter (object_line (standing_in self.old s) s draft line.now) self.old self.new result }
+        ensures said { let s = stream_with serials draft in IsAfter (object_line (standing_in self.old s) s draft line.now) self.old self.new result}
+        ensures place { self.new.place ≡ self.old.place }
     {
         let [first, ..] = line else {
             return self.empty_line(serials, draft);

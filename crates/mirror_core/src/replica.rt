@@ -1,9 +1,10 @@
 //! What a mirror has between lines.
-ghost use Rattle.std.specs.Prelude.{◌≡◌, ◌-◌, ◌^◌, min, ◌+◌};
-ghost use Rattle.std.specs.Option.{option_map};
+ghost use Rattle.std.specs.Prelude.{◌≡◌, ◌≤◌, ◌-◌, ◌^◌, [], None};
+ghost use Rattle.std.specs.Option.{is_none};
+ghost use Rattle.std.specs.Str.Lines.{strip_carriage_return};
 ghost use Rattle.mirror_core.specs.Mirror.{later};
-ghost use Rattle.mirror_core.specs.Line.{after_line, stream_line, long_fault};
-ghost use Rattle.mirror_core.specs.Replica.{PlainReplica, standing, standing_in, stream_with, IsAfter};
+ghost use Rattle.mirror_core.specs.Line.{after_line, stream_line, goes_on_with_value, long_fault};
+ghost use Rattle.mirror_core.specs.Replica.{standing, standing_in, IsAfter, IsBehind};
 
 use crate::FeedFault;
 use crate::draft::{Draft, Serials, Stream};
@@ -33,7 +34,73 @@ impl Model for Replica {
     ghost view = { λ r. record { source = r.source.items; objects = r.objects; serial = r.serial; stream = r.stream; place = r.place } };
 }
 
+/// The line without the one carriage return at its end.
+fn without_return(line: &[u8]) -> &[u8]
+    ensures { result.now ≡ strip_carriage_return line.now }
+{
+    match line {
+        [front @ .., b'\r'] => front,
+        _ => line,
+    }
+}
+
+/// Whether the first byte says that the line goes on with the value before it.
+fn goes_on_with_value(line: &[u8]) -> bool
+    ensures { result ≡ goes_on_with_value line.now }
+{
+    matches!(line, [b'+' | b' ' | b'\t', ..])
+}
+
 impl Replica {
+    /// No objects, and no stream yet.
+    pub(crate) fn new(alloc: Global, source: ArrayVec<u8, 24>) -> Replica
+        ensures { result ≡ record { source = source.items; objects = []; serial = 0; stream = None; place = 0 } }
+    {
+        Replica {
+            alloc,
+            source,
+            objects: Objects::new(alloc),
+            serial: 0,
+            stream: None,
+            place: 0,
+        }
+    }
+
+    pub(crate) fn objects(&self) -> &Objects
+        ensures { result.now ≡ self.now.objects }
+    {
+        &self.objects
+    }
+
+    pub(crate) fn serial(&self) -> u64
+        ensures { result ≡ self.now.serial }
+    {
+        self.serial
+    }
+
+    /// Whether no stream has begun that hasn't ended.
+    pub(crate) fn is_between_streams(&self) -> bool
+        ensures { result ≡ is_none self.now.stream }
+    {
+        self.stream.is_none()
+    }
+
+    /// So many bytes later.
+    pub(crate) fn pass(&mut self, count: usize)
+        ensures passed { self.new ≡ record self.old { place = later self.old.place count } }
+        ensures fits { self.old.place ≤ 2 ^ 64 - 1 }
+    {
+        self.place = self.place.saturating_add(count as u64);
+    }
+
+    /// The stream stops, so many bytes later.
+    pub(crate) fn stop(&mut self, count: usize)
+        ensures { self.new ≡ record self.old { stream = None; place = later self.old.place count } }
+    {
+        self.stream = None;
+        self.place = self.place.saturating_add(count as u64);
+    }
+
     pub(crate) fn spelling(&self) -> FeedFault
         ensures { result ≡ FeedFault.Spelling self.now.place }
     {
@@ -42,7 +109,8 @@ impl Replica {
 
     /// What the line, without its end, says.
     fn take_line(&mut self, line: &[u8]) -> Result<(), FeedFault>
-        ensures { IsAfter (after_line (standing self.old) line.now) self.old self.new result }
+        ensures said { IsAfter (after_line (standing self.old) line.now) self.old self.new result}
+        ensures place { self.new.place ≡ self.old.place }
     {
         match self.stream.take() {
             None => self.outside_line(line),
@@ -51,7 +119,8 @@ impl Replica {
     }
 
     fn stream_line(&mut self, stream: Stream, line: &[u8]) -> Result<(), FeedFault>
-        ensures { IsAfter (stream_line (standing_in self.old stream) stream stream.draft line.now) self.old self.new result }
+        ensures said { IsAfter (stream_line (standing_in self.old stream) stream stream.draft line.now) self.old self.new result}
+        ensures place { self.new.place ≡ self.old.place }
     {
         let Stream { serials, draft } = stream;
         match draft {
@@ -63,6 +132,41 @@ impl Replica {
                 });
                 self.outside_line(line)
             }
+        }
+    }
+
+    /// A whole line without its LF.
+    pub(crate) fn take_whole_line(&mut self, line: &[u8]) -> Result<(), FeedFault>
+        ensures { IsBehind self.old line.now self.new result }
+    {
+        match self.take_line(without_return(line)) {
+            Ok(()) => {
+                self.pass(line.len() + 1);
+                Ok(())
+            }
+            Err(fault) => {
+                self.stop(line.len() + 1);
+                Err(fault)
+            }
+        }
+    }
+
+    /// What is wrong with a line that is too long and begins so, or with the attribute before it.
+    pub(crate) fn long_fault(&self, line: &[u8]) -> FeedFault
+        ensures { result ≡ long_fault (standing self.now) line.now }
+    {
+        let Some(stream) = &self.stream else {
+            return self.spelling();
+        };
+        let Some(draft) = &stream.draft else {
+            return self.spelling();
+        };
+        if goes_on_with_value(line) {
+            return self.spelling();
+        }
+        match draft.attribute_fault(self.source.as_slice()) {
+            Some(fault) => fault,
+            None => self.spelling(),
         }
     }
 }

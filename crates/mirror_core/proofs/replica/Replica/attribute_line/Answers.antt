@@ -10,8 +10,8 @@ use Rattle.mirror_core.proofs.replica.Replica.attribute_line.Goals as goal
 room : (lines : ℕ) → lines < 64 → nat_le most_lines lines ≡ false
 room lines h = grind (arith, nat_tests)
 
-pub returns-then-is_out : goal.returns-then-is_out
-returns-then-is_out c =
+pub returns-then-is_out-clause-said : goal.returns-then-is_out-clause-said
+returns-then-is_out-clause-said c =
     let given = c.draft.inside in
     let mine = c.self.inside in
     let line = c.args.line.now in
@@ -25,8 +25,8 @@ returns-then-is_out c =
     (subst (λ (e : PlainDraft). attribute_line (standing_in r (stream_with c.args.serials e)) (stream_with c.args.serials e) e line ≡ Err (ClassOut mine.place)) c.draft.view_is here),
     record { source = refl; objects = refl; serial = refl; place = refl })
 
-pub returns : goal.returns
-returns c =
+pub returns-clause-said : goal.returns-clause-said
+returns-clause-said c =
     let given = c.draft.inside in
     let mine = c.self.inside in
     let line = c.args.line.now in

@@ -14,9 +14,9 @@ headed m s d (b ∷ bs) some anew =
     let by_text : Option (List ℕ) → Result PlainMirror FeedFault = λ (o : Option (List ℕ)). elim o [ Some text ↦ goes_on m s d text | None ↦ new_line m s d b (b ∷ bs) ] in
     sym (ap by_text anew)
 
-pub returns-in-None : goal.returns-in-None
-returns-in-None c =
+pub returns-in-None-clause-said : goal.returns-in-None-clause-said
+returns-in-None-clause-said c =
     let s = stream_with c.args.serials c.args.draft in
     let anew : continuation_of c.args.line.now ≡ None = sym c.continuation_of.ensures ∙ ap option_copied c.in-None.is in
     subst (λ (said : Result PlainMirror FeedFault). IsAfter said c.args.self.now c.new_line.new.self c.new_line.result)
-    (headed (standing_in c.args.self.now s) s c.args.draft c.args.line.now c.in-len1-up.len_at_least anew) c.new_line.ensures
+    (headed (standing_in c.args.self.now s) s c.args.draft c.args.line.now c.in-len1-up.len_at_least anew) c.new_line.ensures.said
