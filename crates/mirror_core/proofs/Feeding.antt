@@ -26,7 +26,7 @@ later_later place a b = omega arith
 later_none : (place : ℕ) → place ≤ 2 ^ 64 - 1 → later place 0 ≡ place
 later_none place h = omega arith
 
-broken_more : (m : PlainMirror) (a b : ℕ) (f : FeedFault) → broken (broken m a f) b f ≡ broken m (a + b) f
+pub broken_more : (m : PlainMirror) (a b : ℕ) (f : FeedFault) → broken (broken m a f) b f ≡ broken m (a + b) f
 broken_more m a b f =
     ap (λ (place : ℕ). record { source = m.source; objects = m.objects; serial = m.serial; stream = None; line = []; place = place; fault = Some f })
     (later_later m.place a b)
@@ -39,7 +39,7 @@ by_fault m b fault = elim fault [
   | Some f ↦ broken m 1 f
 ]
 
-sound_byte : (m : PlainMirror) (b : ℕ) → m.fault ≡ None → after_byte m b ≡ with_byte m b
+pub sound_byte : (m : PlainMirror) (b : ℕ) → m.fault ≡ None → after_byte m b ≡ with_byte m b
 sound_byte m b h = ap (by_fault m b) h
 
 fault_byte : (m : PlainMirror) (b : ℕ) (f : FeedFault) → m.fault ≡ Some f → after_byte m b ≡ broken m 1 f
@@ -154,3 +154,43 @@ ended_badly r after line NoMemory h = inr (record { front = []; rest = 10 ∷ []
 pub ended_well : (r after : PlainReplica) (line : List ℕ) → standing after ≡ behind_end r line (after_line (standing r) (strip_carriage_return line))
     → IsFedWith (mirror_with r line None) (10 ∷ []) (mirror_with after [] None) None
 ended_well r after line h = (h, refl)
+
+-- ---- lines one by one
+
+-- a front of the bytes was fed, and these are left
+pub record HasFed (old : PlainMirror) (bytes : List ℕ) (now : PlainMirror) (left : List ℕ) : Type 0 where
+  pub front : List ℕ
+  pub split : bytes ≡ front ++ left
+  pub is : now ≡ fed old front
+  pub sound : now.fault ≡ None
+
+whole : (front piece rest bytes left : List ℕ) → bytes ≡ front ++ left → left ≡ piece ++ 10 ∷ rest → bytes ≡ (front ++ (piece ++ 10 ∷ [])) ++ rest
+whole front piece rest bytes left split parts =
+    split ∙ ap (λ (t : List ℕ). front ++ t) (parts ∙ sym (append_assoc piece (10 ∷ []) rest)) ∙ sym (append_assoc front (piece ++ 10 ∷ []) rest)
+
+pub line_more : (old now new : PlainMirror) (bytes left piece rest : List ℕ) → HasFed old bytes now left → left ≡ piece ++ 10 ∷ rest
+    → IsFedWith now (piece ++ 10 ∷ []) new None → HasFed old bytes new rest
+line_more old now new bytes left piece rest h parts fed_line = record {
+  front = h.front ++ (piece ++ 10 ∷ []);
+  split = whole h.front piece rest bytes left h.split parts;
+  is = fed_line.0 ∙ ap (λ (n : PlainMirror). fed n (piece ++ 10 ∷ [])) h.is ∙ fed_more old h.front (piece ++ 10 ∷ []);
+  sound = fed_line.1;
+}
+
+pub line_last : (old now new : PlainMirror) (bytes left : List ℕ) (result : Result (Unit {0}) FeedFault) → HasFed old bytes now left → IsFed now left new result
+    → IsFed old bytes new result
+line_last old now new bytes left result h feeds =
+    subst (λ (bs : List ℕ). IsFed old bs new result) (sym h.split)
+    (behind old h.front left new result (subst (λ (n : PlainMirror). IsFed n left new result) h.is feeds))
+
+pub line_stops : (old now new last : PlainMirror) (bytes left piece rest : List ℕ) (f : FeedFault) → HasFed old bytes now left → left ≡ piece ++ 10 ∷ rest
+    → IsFed now (piece ++ 10 ∷ []) new (Err f) → IsStill new → last ≡ passed new (length rest) → IsFed old bytes last (Err f)
+line_stops old now new last bytes left piece rest f h parts feeds still passes =
+    subst (λ (n : PlainMirror). IsFed old bytes n (Err f)) (sym passes)
+    (subst (λ (bs : List ℕ). IsFed old bs (passed new (length rest)) (Err f)) (sym (whole h.front piece rest bytes left h.split parts))
+    (followed old (h.front ++ (piece ++ 10 ∷ [])) rest new f still
+    (behind old h.front (piece ++ 10 ∷ []) new (Err f) (subst (λ (n : PlainMirror). IsFed n (piece ++ 10 ∷ []) new (Err f)) h.is feeds))))
+
+pub still_stopped : (old last : PlainMirror) (bytes : List ℕ) (f : FeedFault) → old.fault ≡ Some f → IsStill old → last ≡ passed old (length bytes) → IsFed old bytes last (Err f)
+still_stopped old last bytes f h still passes =
+    told old bytes last f (passes ∙ passed_fed old f h still bytes) (ap (λ (n : PlainMirror). n.fault) passes ∙ h)

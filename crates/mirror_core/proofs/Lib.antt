@@ -7,3 +7,4 @@ pub mod Sources
 pub mod Serials
 pub mod Attributes
 pub mod Feeding
+pub mod Holding
