@@ -1,10 +1,10 @@
 -- Attributes that are added to those that are kept, and a last one that goes on.
-use Rattle.std.proofs.Common.{◌≡◌, ℕ, ◌+◌, ◌-◌, ◌≤◌, List, [], ◌∷◌, ◌++◌, length, take, drop, sum_by, Some, refl, sym, ap, ap₂, ◌∙◌, arith, length-append, length-take, length-drop, append_assoc, zero-add}
-use Rattle.std.proofs.lemmas.List.{take_all, drop_all, take-take, take-append-drop, take-append-le, drop-append-le}
+use Rattle.std.proofs.Common.{◌≡◌, ℕ, ◌+◌, ◌-◌, ◌≤◌, List, [], ◌∷◌, ◌++◌, length, get_or, take, drop, sum_by, Some, refl, sym, ap, ap₂, ◌∙◌, subst, arith, length-append, length-take, length-drop, append_assoc, zero-add}
+use Rattle.std.proofs.lemmas.List.{take_all, take_more, length-take-le, drop_all, take-take, take-append-drop, take-append-le, drop-append-le}
 use Rattle.std.proofs.lemmas.List.Sums.{sum_by-cons, sum_by-append}
 use Rattle.std.specs.Option.{option_map}
 use Rattle.rpsl_text.specs.declared.attrs.Span.{Span}
-use Rattle.rpsl_text.specs.Attributes.{span_length, attributes_at, AreSpansOf}
+use Rattle.rpsl_text.specs.Attributes.{span_length, attributes_at, AreSpansOf, last_of}
 use Rattle.rpsl_text.specs.Lines.{continued}
 use Rattle.rpsl_text.specs.Reading.{gone_on}
 use Rattle.std.proofs.Math.Seq.{take-append_seam, drop-append_seam}
@@ -87,3 +87,45 @@ goes_on bytes new spans was is text start total starts front back is_name is_val
     ∙ last_goes_on (attributes_at others spans) name value text
     ∙ ap Some (sym (ap (λ (bs : List ℕ). attributes_at bs (spans ++ is ∷ [])) is_all
     ∙ stored others spans name (continued value text) is others_length (is_name ∙ name_length) more_length))
+
+-- ---- the last one
+
+last_of_more : (attributes : List (List ℕ × List ℕ)) (a : List ℕ × List ℕ) → last_of (attributes ++ a ∷ []) ≡ Some a
+last_of_more [] a = refl
+last_of_more (b ∷ []) a = refl
+last_of_more (b ∷ c ∷ more) a = last_of_more (c ∷ more) a
+
+last_parted : (bytes : List ℕ) (spans : List Span) (s : Span) (front : List ℕ) → AreSpansOf bytes (spans ++ s ∷ []) → front ≡ take (length bytes - s.value) bytes
+    → last_of (attributes_at bytes (spans ++ s ∷ [])) ≡ Some (drop (length front - s.name) front, drop (length bytes - s.value) bytes)
+last_parted bytes spans s front total is_front =
+    let sum : sum_by span_length spans + (s.name + s.value) ≡ length bytes =
+    ap (λ n. sum_by span_length spans + n) (sym (zero-add (s.name + s.value))) ∙ sym (sum_by-append span_length spans (s ∷ [])) ∙ total in
+    let start : ℕ = length bytes - s.value in
+    let from : ℕ = length front - s.name in
+    let others : List ℕ = take from front in
+    let name : List ℕ = drop from front in
+    let value : List ℕ = drop start bytes in
+    let lengths : length front ≡ length bytes - s.value = ap length is_front ∙ length-take-le start bytes (omega arith) in
+    let all : bytes ≡ others ++ (name ++ value) =
+    sym (take-append-drop start bytes) ∙ ap (λ (t : List ℕ). t ++ value) (sym is_front ∙ sym (take-append-drop from front)) ∙ append_assoc others name value in
+    let others_length : sum_by span_length spans ≡ length others = omega (arith, sum, lengths, length-take from front) in
+    let name_length : s.name ≡ length name = omega (arith, sum, lengths, length-drop from front) in
+    let value_length : s.value ≡ length value = omega (arith, sum, length-drop start bytes) in
+    ap (λ (bs : List ℕ). last_of (attributes_at bs (spans ++ s ∷ []))) all
+    ∙ ap last_of (stored others spans name value s others_length name_length value_length)
+    ∙ last_of_more (attributes_at others spans) (name, value)
+
+-- all but the last, and the last
+pub ends : (spans : List Span) (d : Span) → 1 ≤ length spans → spans ≡ take (length spans - 1) spans ++ get_or spans (length spans - 1) d ∷ []
+ends spans d some =
+    sym (take_all (length spans - 1 + 1) spans (omega (arith, some))) ∙ take_more spans (length spans - 1) d (omega (arith, some))
+
+pub last_read : (bytes all front value name : List ℕ) (spans others : List Span) (s : Span) → AreSpansOf bytes spans → spans ≡ others ++ s ∷ [] → all ≡ bytes
+    → front ≡ take (length all - s.value) all → value ≡ drop (length all - s.value) all → name ≡ drop (length front - s.name) front
+    → Some (name, value) ≡ last_of (attributes_at bytes spans)
+last_read bytes all front value name spans others s total is_spans is_all is_front is_value is_name =
+    let sum : AreSpansOf bytes (others ++ s ∷ []) = subst (λ (ss : List Span). AreSpansOf bytes ss) is_spans total in
+    let start : front ≡ take (length bytes - s.value) bytes = is_front ∙ ap (λ (bs : List ℕ). take (length bs - s.value) bs) is_all in
+    let back : value ≡ drop (length bytes - s.value) bytes = is_value ∙ ap (λ (bs : List ℕ). drop (length bs - s.value) bs) is_all in
+    ap₂ (λ (n v : List ℕ). Some (n, v)) is_name back ∙ sym (last_parted bytes others s front sum start)
+    ∙ ap (λ (ss : List Span). last_of (attributes_at bytes ss)) (sym is_spans)

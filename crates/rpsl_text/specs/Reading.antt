@@ -52,3 +52,9 @@ abbrev pub IsTakenAs : ℕ → Option (List (List ℕ × List ℕ)) → List (Li
 IsTakenAs n longer attributes (Ok _) = longer ≡ Some attributes
 IsTakenAs n longer attributes (Err (Line m)) = (longer ≡ None) × (m ≡ n)
 IsTakenAs n longer attributes (Err NoMemory) = Unit {0}
+
+-- what is answered to one line of this number: the attributes with it, or the fault, or want of memory
+abbrev pub IsLongerAs : ℕ → Option (List (List ℕ × List ℕ)) → Result (List (List ℕ × List ℕ)) RpslFault → Type 0
+IsLongerAs n longer (Ok attributes) = longer ≡ Some attributes
+IsLongerAs n longer (Err (Line m)) = (longer ≡ None) × (m ≡ n)
+IsLongerAs n longer (Err NoMemory) = Unit {0}

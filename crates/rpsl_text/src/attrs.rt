@@ -1,6 +1,10 @@
 //! Attributes, kept in the memory of two vectors, however many there are.
-ghost use Rattle.std.specs.Prelude.{◌≡◌};
+ghost use Rattle.std.specs.Prelude.{◌≡◌, []};
+ghost use Rattle.std.specs.Option.{option_map};
+ghost use Rattle.rpsl_text.specs.Attributes.{last_of};
+ghost use Rattle.rpsl_text.specs.Pairs.{pair_of};
 
+use std::alloc::Global;
 use std::marker::Model;
 
 /// How many bytes a name and its value have.
@@ -49,6 +53,29 @@ impl<'a> Model for PairWalk<'a> {
 }
 
 impl Attrs {
+    /// No attributes, which take no memory.
+    pub fn new(alloc: Global) -> Attrs
+        ensures { result ≡ [] }
+    {
+        Attrs {
+            bytes: Vec::new(alloc),
+            spans: Vec::new(alloc),
+        }
+    }
+
+    /// The name and the value that stand last.
+    pub fn last(&self) -> Option<(&[u8], &[u8])>
+        ensures { option_map pair_of result ≡ last_of self.now }
+    {
+        let [.., last] = self.spans.as_slice() else {
+            return None;
+        };
+        let bytes = self.bytes.as_slice();
+        let (front, value) = bytes.split_at(bytes.len() - last.value);
+        let (_, name) = front.split_at(front.len() - last.name);
+        Some((name, value))
+    }
+
     /// Lends each name and its value, in order.
     pub fn walk(&self) -> PairWalk<'_>
         ensures { result ≡ self.now }

@@ -13,5 +13,6 @@ mod write;
 
 pub use attrs::{Attrs, PairWalk};
 pub use fault::RpslFault;
+pub use lines::{continuation_of, next_word};
 pub use read::read_object;
-pub use write::{append_object, write_object};
+pub use write::{append_attribute, append_object, write_object};

@@ -46,8 +46,8 @@ fn are_blanks(text: &[u8]) -> bool
     text.iter().all(|b| is_blank(*b))
 }
 
-/// The text with which this line goes on with a value.
-pub(crate) fn continuation_of(line: &[u8]) -> Option<&[u8]>
+/// The text with which this line goes on with a value (RFC 2622 2).
+pub fn continuation_of(line: &[u8]) -> Option<&[u8]>
     ensures { option_copied result ≡ continuation_of line.now }
 {
     match line {
@@ -132,8 +132,8 @@ fn part_at_blank(text: &[u8]) -> (&[u8], &[u8])
     }
 }
 
-/// The first word of the text, and what stands behind it.
-fn next_word(text: &[u8]) -> Option<(&[u8], &[u8])>
+/// The first word of the text, and what stands behind it. Blanks and tabs part words.
+pub fn next_word(text: &[u8]) -> Option<(&[u8], &[u8])>
     ensures { MatchOption result (words text.now ≡ [])
         (λ parts. (words text.now ≡ parts.0.now ∷ words parts.1.now) × (length parts.1.now < length text.now)) }
 {

@@ -2,7 +2,7 @@
 ghost use Rattle.std.specs.Prelude.{◌≡◌, ◌++◌, ◌∷◌, [], OnOk};
 ghost use Rattle.rpsl_text.specs.Attributes.{attributes_at, AreSpansOf};
 ghost use Rattle.rpsl_text.specs.Lines.{attribute_of};
-ghost use Rattle.rpsl_text.specs.Reading.{gone_on, after_line, read_text, IsReadAs, IsTakenAs};
+ghost use Rattle.rpsl_text.specs.Reading.{gone_on, after_line, read_text, IsReadAs, IsTakenAs, IsLongerAs};
 
 use crate::attrs::{Attrs, Span};
 use crate::fault::RpslFault;
@@ -70,25 +70,37 @@ impl Draft {
     }
 }
 
+impl Attrs {
+    /// The attributes with one more line, which is a fault of this number where it neither begins an attribute nor goes on with
+    /// the last one.
+    pub fn with_line(self, line: &[u8], number: u32) -> Result<Attrs, RpslFault>
+        ensures { IsLongerAs number (after_line self line.now) result }
+    {
+        let mut draft = Draft {
+            bytes: self.bytes,
+            spans: self.spans,
+        };
+        draft.take_line(line, number)?;
+        Ok(Attrs {
+            bytes: draft.bytes,
+            spans: draft.spans,
+        })
+    }
+}
+
 /// The attributes of an object's text, in order (RFC 2622 2). Each line ends with LF or CR LF; the last may lack its end, and
 /// a carriage return that no LF follows belongs to the value. A text without lines has no attributes. It takes memory for two
 /// vectors, however many attributes there are.
 pub fn read_object(alloc: Global, text: &[u8]) -> Result<Attrs, RpslFault>
     ensures { IsReadAs (read_text text.now) result }
 {
-    let mut draft = Draft {
-        bytes: Vec::new(alloc),
-        spans: Vec::new(alloc),
-    };
+    let mut attrs = Attrs::new(alloc);
     let mut number: u32 = 1;
     let mut left = text;
     'lines: while let Some((line, rest)) = next_line(left) {
-        draft.take_line(line, number)?;
+        attrs = attrs.with_line(line, number)?;
         number = number.saturating_add(1);
         left = rest;
     }
-    Ok(Attrs {
-        bytes: draft.bytes,
-        spans: draft.spans,
-    })
+    Ok(attrs)
 }

@@ -46,7 +46,9 @@ fn block_class(space: Space) -> &'static [u8]
     }
 }
 
-fn append_attribute(name: &[u8], value: &[u8], body: &mut Body) -> Result<(), AllocError>
+/// Appends a line of this name and this value (RFC 2622 2). Where there is no memory for all of it, some of it may stand in the
+/// body.
+pub fn append_attribute(name: &[u8], value: &[u8], body: &mut Body) -> Result<(), AllocError>
     ensures { OnOk result (body.new ≡ body.old ++ attribute_line (name.now, value.now)) }
 {
     body.append(name)?;

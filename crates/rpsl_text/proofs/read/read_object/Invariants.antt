@@ -1,14 +1,10 @@
 use Rattle.std.proofs.Common.{◌≡◌, length}
 use Rattle.std.specs.Str.Lines.{lines}
-use Rattle.rpsl_text.specs.Attributes.{attributes_at, AreSpansOf}
 use Rattle.rpsl_text.specs.Reading.{after_lines, read_text}
 use Rattle.rpsl_text.proofs.read.read_object.Given as goal
 
 abbrev pub invariant-lines : goal.invariant-lines
-invariant-lines l = record {
-  spans : AreSpansOf l.draft.bytes.items l.draft.spans.items;
-  read : after_lines (attributes_at l.draft.bytes.items l.draft.spans.items) l.number (lines l.left) ≡ read_text l.text;
-}
+invariant-lines l = after_lines l.attrs l.number (lines l.left) ≡ read_text l.text
 
 abbrev pub decreases-lines : goal.decreases-lines
 decreases-lines l = length l.left
