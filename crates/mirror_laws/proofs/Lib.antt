@@ -5,3 +5,6 @@ pub mod PlainTexts
 pub mod Framing
 pub mod Attributes
 pub mod Operations
+pub mod Playing
+pub mod Streams
+pub mod Feeds
