@@ -1,10 +1,11 @@
-//! What was written is read again, proved as the contract of a function that does nothing.
+//! What was written is read again, proved as contracts of functions that do nothing.
 ghost use Rattle.std.specs.Prelude.{◌≡◌, ℕ, List, Ok, IsTrue};
-ghost use Rattle.std.specs.List.{All};
+ghost use Rattle.std.specs.List.{All, AllByRecursion};
 ghost use Rattle.reg_entry.specs.declared.object.Object.{Object as TheObject};
 ghost use Rattle.reg_entry.specs.Host.{is_host};
 ghost use Rattle.rpsl_text.specs.Forms.{HasFields, HasHandle, HasForms, is_source};
-ghost use Rattle.rpsl_text.specs.Object.{object_text};
+ghost use Rattle.rpsl_text.specs.Alone.{IsReadAlone};
+ghost use Rattle.rpsl_text.specs.Object.{attributes_of, object_text};
 ghost use Rattle.rpsl_text.specs.Plain.{plain_attributes};
 ghost use Rattle.rpsl_text.specs.Reading.{read_text};
 
@@ -14,6 +15,12 @@ use reg_entry::{Handle, Holder, Host, Object};
 pub fn written_is_read()
     ensures { (o : TheObject) (source : List ℕ) → HasForms o → IsTrue (is_source source)
         → read_text (object_text o source) ≡ Ok (plain_attributes o source) }
+{}
+
+/// Each line of the text of an object is read by itself as its attribute, and is short.
+pub fn lines_are_read_alone()
+    ensures { (o : TheObject) (source : List ℕ) → HasForms o → IsTrue (is_source source)
+        → AllByRecursion IsReadAlone (attributes_of o source) }
 {}
 
 fn has_fields(holder: &Holder)
