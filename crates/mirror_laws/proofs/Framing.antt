@@ -34,7 +34,7 @@ with_dash a b = decimal a ++ 45 ∷ decimal b
 abbrev pub start_text : List ℕ → ℕ → ℕ → List ℕ
 start_text source a b = codes "%START Version: 3 " ++ (source ++ 32 ∷ with_dash a b)
 
-parted : (front back : List ℕ) → All (λ b. b ≢ 45) front → parted_at 45 (front ++ 45 ∷ back) ≡ Some (front, back)
+pub parted : (front back : List ℕ) → All (λ b. b ≢ 45) front → parted_at 45 (front ++ 45 ∷ back) ≡ Some (front, back)
 parted [] back h = refl
 parted (b ∷ front) back h =
     let P : ℕ → Type 0 = λ b. b ≢ 45 in

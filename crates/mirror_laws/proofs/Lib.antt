@@ -8,3 +8,5 @@ pub mod Operations
 pub mod Playing
 pub mod Streams
 pub mod Feeds
+pub mod NumberTexts
+pub mod RangeKeys

@@ -72,10 +72,10 @@ source_is source h =
 
 -- ---- decimals
 
-abbrev IsDigitByte : ℕ → Type 0
+abbrev pub IsDigitByte : ℕ → Type 0
 IsDigitByte b = (48 ≤ b) × (b ≤ 57)
 
-decimal_bytes : (n : ℕ) → n < 2 ^ 64 → All IsDigitByte (decimal n)
+pub decimal_bytes : (n : ℕ) → n < 2 ^ 64 → All IsDigitByte (decimal n)
 decimal_bytes n fits =
     All-from_get_or IsDigitByte (decimal n) 0 λ i h.
     let digit = digit_at (decimal n) i (decimal_is_IsNumeral n fits).0.1 h in
