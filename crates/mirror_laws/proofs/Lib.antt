@@ -10,3 +10,4 @@ pub mod Streams
 pub mod Feeds
 pub mod NumberTexts
 pub mod RangeKeys
+pub mod Labels
