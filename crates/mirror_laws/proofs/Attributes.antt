@@ -75,11 +75,11 @@ module _ (source : List ℕ) (os : Objects) (n place next last : ℕ) (line : Li
   s = record { next = next; last = last; draft = Some d }
 
   abbrev m : PlainMirror
-  m = at source os n (between next last (Some d)) line place
+  m = at source os n (between next last (Some d)) [] place
 
   abbrev longer : Attribute → Result PlainMirror FeedFault
   longer a =
-      Ok (at source os n (between next last (Some (draft_of act (attributes ++ a ∷ []) (lines + 1) (cond (lines == 0) place first) place))) line place)
+      Ok (at source os n (between next last (Some (draft_of act (attributes ++ a ∷ []) (lines + 1) (cond (lines == 0) place first) place))) [] place)
 
   begins : (a : Attribute) → is_out d a.0 ≡ false → (o : Option (List ℕ × List ℕ)) → option_map attribute_of o ≡ Some a
       → elim o [ None ↦ Err (Spelling m.place) | Some parts ↦ begins_attribute m s d (attribute_of parts) ] ≡ longer a

@@ -23,8 +23,8 @@ between next last draft = Some (record { next = next; last = last; draft = draft
 
 -- the line that nothing is newer
 pub no_newer_passes : (source : List ℕ) (os : Objects) (n place : ℕ) (line : List ℕ) → line ≡ codes "% no newer operations"
-    → after_line (at source os n None line place) line ≡ Ok (at source os n None line place)
-no_newer_passes source os n place line e = ap (λ (l : List ℕ). after_line (at source os n None line place) l) e
+    → after_line (at source os n None [] place) line ≡ Ok (at source os n None [] place)
+no_newer_passes source os n place line e = ap (λ (l : List ℕ). after_line (at source os n None [] place) l) e
 
 -- ---- the start
 
@@ -76,16 +76,16 @@ operation_read Del k fits = ap (λ (o : Option ℕ). o >>= λ serial. Some (Del,
 
 module _ (source : List ℕ) (os : Objects) (n place : ℕ) (line : List ℕ) where
   begins : (a b : ℕ) → a ≤ n + 1 → a < 2 ^ 64 → a ≤ b
-      → started (at source os n None line place) (start_of_serials source a b) ≡ Ok (at source os n (between a b None) line place)
+      → started (at source os n None [] place) (start_of_serials source a b) ≡ Ok (at source os n (between a b None) [] place)
   begins a b near fits order =
       let no_gap : nat_lt (min (n + 1) (2 ^ 64 - 1)) a ≡ false = le-ltb _ a (omega arith) in
       let rises : nat_lt b a ≡ false = le-ltb b a order in
       rw (bytes_same source, no_gap, rises) refl
 
   pub start_passes : (a b : ℕ) → line ≡ start_text source a b → IsWord source → a ≤ n + 1 → a < 2 ^ 64 → b < 2 ^ 64 → a ≤ b
-      → after_line (at source os n None line place) line ≡ Ok (at source os n (between a b None) line place)
+      → after_line (at source os n None [] place) line ≡ Ok (at source os n (between a b None) [] place)
   start_passes a b is word near low high order =
-      let m : PlainMirror = at source os n None line place in
+      let m : PlainMirror = at source os n None [] place in
       let range : IsWord (with_dash a b) = word_between (decimal a) (decimal b) 45 (omega arith) (decimal_word a low) (decimal_word b high) in
       ap (λ (l : List ℕ). after_line m l) is
       ∙ ap (λ (ws : List (List ℕ)). start_line m (codes "Version:" ∷ codes "3" ∷ ws))
@@ -104,27 +104,27 @@ module _ (source : List ℕ) (os : Objects) (n place : ℕ) (line : List ℕ) wh
   empty_act_passes act k last = refl
 
   act_begins : (act : Act) (k last : ℕ) → k ≤ last
-      → begun (at source os n (between k last None) line place) (act, k) (between k last None) ≡ Ok (at source os n (between k last (Some (no_lines act))) line place)
+      → begun (at source os n (between k last None) [] place) (act, k) (between k last None) ≡ Ok (at source os n (between k last (Some (no_lines act))) [] place)
   act_begins act k last order =
       let same : (k == k) ≡ true = eq-eqb k k refl in
       let less : nat_le k last ≡ true = le-leb k last order in
       rw (same, less) refl
 
   act_read : (act : Act) (k last : ℕ) → k < 2 ^ 64 → k ≤ last
-      → operation_line (at source os n (between k last None) line place) (act_word act ∷ decimal k ∷ [])
-      ≡ Ok (at source os n (between k last (Some (no_lines act))) line place)
+      → operation_line (at source os n (between k last None) [] place) (act_word act ∷ decimal k ∷ [])
+      ≡ Ok (at source os n (between k last (Some (no_lines act))) [] place)
   act_read act k last fits order =
-      ap (with_operation (at source os n (between k last None) line place)) (operation_read act k fits) ∙ act_begins act k last order
+      ap (with_operation (at source os n (between k last None) [] place)) (operation_read act k fits) ∙ act_begins act k last order
 
   pub act_passes : (act : Act) (k last : ℕ) → line ≡ act_word act ++ 32 ∷ decimal k → k < 2 ^ 64 → k ≤ last
-      → after_line (at source os n (between k last None) line place) line ≡ Ok (at source os n (between k last (Some (no_lines act))) line place)
+      → after_line (at source os n (between k last None) [] place) line ≡ Ok (at source os n (between k last (Some (no_lines act))) [] place)
   act_passes Add k last is fits order =
-      let m : PlainMirror = at source os n (between k last None) line place in
+      let m : PlainMirror = at source os n (between k last None) [] place in
       ap (λ (l : List ℕ). after_line m l) is
       ∙ ap (λ (ws : List (List ℕ)). operation_line m (codes "ADD" ∷ ws)) (word_alone (decimal k) (decimal_word k fits))
       ∙ act_read Add k last fits order
   act_passes Del k last is fits order =
-      let m : PlainMirror = at source os n (between k last None) line place in
+      let m : PlainMirror = at source os n (between k last None) [] place in
       ap (λ (l : List ℕ). after_line m l) is
       ∙ ap (λ (ws : List (List ℕ)). operation_line m (codes "DEL" ∷ ws)) (word_alone (decimal k) (decimal_word k fits))
       ∙ act_read Del k last fits order
@@ -132,9 +132,9 @@ module _ (source : List ℕ) (os : Objects) (n place : ℕ) (line : List ℕ) wh
   -- ---- the end
 
   pub end_passes : (k last : ℕ) → line ≡ codes "%END " ++ source → IsWord source → last < k
-      → after_line (at source os n (between k last None) line place) line ≡ Ok (at source os n None line place)
+      → after_line (at source os n (between k last None) [] place) line ≡ Ok (at source os n None [] place)
   end_passes k last is word over =
-      let m : PlainMirror = at source os n (between k last None) line place in
+      let m : PlainMirror = at source os n (between k last None) [] place in
       let past : nat_lt last k ≡ true = lt-ltb last k over in
       ap (λ (l : List ℕ). after_line m l) is
       ∙ ap (end_line m) (word_alone source word)

@@ -1,6 +1,6 @@
 -- The labels of a reverse cut, as numbers and as text.
-use Rattle.std.proofs.Common.{◌≡◌, ◌≢◌, ℕ, zero, suc, ◌+◌, ◌-◌, ◌*◌, ◌/◌, ◌%◌, ◌^◌, ◌<◌, ◌≤◌, Bool, true, false, ◌==◌, nat_lt, nat_le, List, [], ◌∷◌, ◌++◌, length, map, filter, flat_map, All, codes, decimal, Option, None, Some, refl, sym, ap, ap₂, ◌∙◌, subst, arith, append-nil, append_assoc, ne_eqb, suc-mul}
-use Rattle.std.proofs.lemmas.Bool.{cond-true, cond-false}
+use Rattle.std.proofs.Common.{◌≡◌, ◌≢◌, ℕ, zero, suc, ◌+◌, ◌-◌, ◌*◌, ◌/◌, ◌%◌, ◌^◌, ◌<◌, ◌≤◌, Bool, true, false, ◌&&◌, ◌||◌, ◌==◌, nat_lt, nat_le, List, [], ◌∷◌, ◌++◌, length, map, filter, flat_map, All, codes, decimal, Option, None, Some, refl, sym, ap, ap₂, ◌∙◌, subst, arith, append-nil, append_assoc, ne_eqb, suc-mul}
+use Rattle.std.proofs.lemmas.Bool.{cond-true, cond-false, cond_both}
 use Rattle.std.proofs.lemmas.Bool.Decides.{nat_tests}
 use Rattle.std.proofs.lemmas.List.Elements.{All-nil, All-cons, All-append, All-weaker}
 use Rattle.std.proofs.lemmas.List.Splits.{slice_split_none, slice_split_at}
@@ -56,7 +56,7 @@ module _ (bits v : ℕ) where
 
   pub places_count : (k p : ℕ) → length (map label (places_from bits p k)) ≡ k
   places_count zero p = refl
-  places_count (suc k) p = ?
+  places_count (suc k) p = omega (arith, places_count k (p + bits))
 
 -- ---- their text
 
@@ -72,8 +72,23 @@ octet_label l h = record {
   read = decimal_read 255 l (omega arith) (omega arith);
 }
 
+abbrev is_nibble : ℕ → Bool
+is_nibble b = (nat_le 48 b && nat_le b 57) || (nat_le 97 b && nat_le b 102)
+
+nibble_byte : (l : ℕ) → l < 16 → 48 ≤ digit_char l
+nibble_byte l h = cond_both (nat_lt l 10) (48 + l) (87 + l) (λ b. 48 ≤ b) (λ _. omega arith) (λ _. omega arith)
+
+nibble_is : (l : ℕ) → l < 16 → is_nibble (digit_char l) ≡ true
+nibble_is l h = cond_both (nat_lt l 10) (48 + l) (87 + l) (λ b. is_nibble b ≡ true) (λ e. grind (arith, nat_tests)) (λ e. grind (arith, nat_tests))
+
 pub nibble_label : (l : ℕ) → l < 16 → IsLabel Ipv6 l
-nibble_label l h = ?
+nibble_label l h =
+    let byte = nibble_byte l h in
+    record {
+      word = record { some = omega arith; bytes = All-cons IsWordByte (digit_char l) [] (omega arith) (All-nil IsWordByte) };
+      no_dot = All-cons (λ b. b ≢ 46) (digit_char l) [] (λ e. omega arith) (All-nil (λ b. b ≢ 46));
+      read = cond-true (is_nibble (digit_char l)) (Some (digit_value (digit_char l))) None (nibble_is l h) ∙ ap Some (digit_value-digit_char l (omega arith));
+    }
 
 module _ (space : Space) where
   abbrev pub AreLabels : List ℕ → Type 0

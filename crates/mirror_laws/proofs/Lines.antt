@@ -54,14 +54,15 @@ short_enough line h = let less = stripped_length line in grind (arith, nat_tests
 
 module _ (Q : Objects → ℕ → Type 0) (source : List ℕ) (os ks : Objects) (n k : ℕ) (stream next : Option PlainStream) (place : ℕ) (line : List ℕ) where
   rest_leads : (front rest : List ℕ) → front ++ rest ≡ line → length line ≤ 1024 → All IsPlain line → All IsPlain rest → Q os n → Q ks k
-      → after_line (at source os n stream line place) line ≡ Ok (at source ks k next line place)
+      → after_line (at source os n stream [] place) line ≡ Ok (at source ks k next [] place)
       → Leads (IsKept Q) (at source os n stream front place) (rest ++ 10 ∷ []) (at source ks k next [] (later place (length line + 1)))
   rest_leads front [] whole short plain left here then_ after =
+      let standing : PlainMirror = at source os n stream [] place in
       let same : front ≡ line = sym (append-nil front) ∙ whole in
       let next_is : after_byte (at source os n stream front place) 10 ≡ at source ks k next [] (later place (length line + 1)) =
-      ap (λ (f : List ℕ). behind_line (at source os n stream f place) (length f + 1) (after_line (at source os n stream f place) (strip_carriage_return f))) same
-      ∙ ap (λ (t : List ℕ). behind_line (at source os n stream line place) (length line + 1) (after_line (at source os n stream line place) t)) (no_return line plain)
-      ∙ ap (behind_line (at source os n stream line place) (length line + 1)) after in
+      ap (λ (f : List ℕ). behind_line standing (length f + 1) (after_line standing (strip_carriage_return f))) same
+      ∙ ap (λ (t : List ℕ). behind_line standing (length line + 1) (after_line standing t)) (no_return line plain)
+      ∙ ap (behind_line standing (length line + 1)) after in
       byte_leads (IsKept Q) _ _ _ 10 [] (is_kept Q source os n stream front place here) next_is
       (nothing_leads (IsKept Q) _ (is_kept Q source ks k next [] (later place (length line + 1)) then_))
   rest_leads front (b ∷ rest) whole short plain left here then_ after =
@@ -78,6 +79,6 @@ module _ (Q : Objects → ℕ → Type 0) (source : List ℕ) (os ks : Objects) 
 
   -- a line and its end
   pub line_leads : length line ≤ 1024 → All IsPlain line → Q os n → Q ks k
-      → after_line (at source os n stream line place) line ≡ Ok (at source ks k next line place)
+      → after_line (at source os n stream [] place) line ≡ Ok (at source ks k next [] place)
       → Leads (IsKept Q) (at source os n stream [] place) (line ++ 10 ∷ []) (at source ks k next [] (later place (length line + 1)))
   line_leads short plain here then_ after = rest_leads [] line refl short plain plain here then_ after
