@@ -11,3 +11,4 @@ pub mod Feeds
 pub mod NumberTexts
 pub mod RangeKeys
 pub mod Labels
+pub mod CutKeys
