@@ -5,6 +5,7 @@ use Rattle.std.specs.Option.{option_map, option_and_then, is_some, is_none}
 use Rattle.std.proofs.lemmas.Bool.{cond-true, cond-false, lt-leb}
 use Rattle.reg_entry.specs.declared.object.Key.{Key}
 use Rattle.reg_entry.specs.declared.object.Act.{Act}
+use Rattle.rpsl_text.specs.Alone.{line_of}
 use Rattle.rpsl_text.specs.Lines.{continuation_of, name_and_rest, attribute_of}
 use Rattle.rpsl_text.specs.Object.{attribute_line as attribute_text, attributes_text}
 use Rattle.rpsl_text.specs.Plain.{plain_attribute}
@@ -24,10 +25,6 @@ Attribute = List ℕ × List ℕ
 
 abbrev pub draft_of : Act → List Attribute → ℕ → ℕ → ℕ → PlainDraft
 draft_of act attributes lines first last = record { act = act; attributes = attributes; lines = lines; first = first; last = last }
-
--- an attribute's line without its end
-abbrev pub line_of : Attribute → List ℕ
-line_of a = a.0 ++ 58 ∷ 32 ∷ a.1
 
 -- a line that is read as an attribute by itself, which names no other source
 pub record IsReadAs (source : List ℕ) (line : List ℕ) (a : Attribute) : Type 0 where

@@ -12,3 +12,4 @@ pub mod NumberTexts
 pub mod RangeKeys
 pub mod Labels
 pub mod CutKeys
+pub mod Readable
