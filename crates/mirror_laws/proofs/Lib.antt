@@ -13,3 +13,5 @@ pub mod RangeKeys
 pub mod Labels
 pub mod CutKeys
 pub mod Readable
+pub mod Published
+pub mod Legal

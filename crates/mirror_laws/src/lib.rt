@@ -1,4 +1,4 @@
-//! What a mirror holds that is fed the register's own stream, proved as contracts of functions that do nothing.
+//! Laws over a mirror that is fed the register's own stream; no code.
 #![tactic(auto)]
 
 pub mod laws;
