@@ -1,5 +1,5 @@
 -- The lines of an object in a stream, attribute by attribute.
-use Rattle.std.proofs.Common.{◌≡◌, ◌≢◌, ℕ, ◌+◌, ◌<◌, ◌≤◌, Bool, true, false, not, ◌&&◌, ◌==◌, nat_le, cond, List, [], ◌∷◌, ◌++◌, length, map, All, get_or, codes, Option, None, Some, Result, Ok, Err, refl, sym, ap, ◌∙◌, subst, arith, append_assoc, append-nil, ne_eqb}
+use Rattle.std.proofs.Common.{◌≡◌, ℕ, ◌+◌, ◌<◌, ◌≤◌, Bool, true, false, not, ◌&&◌, ◌==◌, nat_le, cond, List, [], ◌∷◌, ◌++◌, length, map, All, get_or, Option, None, Some, Result, Ok, Err, refl, sym, ap, ◌∙◌, subst, arith, append_assoc, append-nil, ne_eqb}
 use Rattle.std.specs.List.{AllByRecursion, list_any}
 use Rattle.std.specs.Option.{option_map, option_and_then, is_some, is_none}
 use Rattle.std.proofs.lemmas.Bool.{cond-true, cond-false, lt-leb}
@@ -7,16 +7,16 @@ use Rattle.reg_entry.specs.declared.object.Key.{Key}
 use Rattle.reg_entry.specs.declared.object.Act.{Act}
 use Rattle.rpsl_text.specs.Alone.{line_of}
 use Rattle.rpsl_text.specs.Lines.{continuation_of, name_and_rest, attribute_of}
-use Rattle.rpsl_text.specs.Object.{attribute_line as attribute_text, attributes_text}
+use Rattle.rpsl_text.specs.Object.{attributes_text}
 use Rattle.rpsl_text.specs.Plain.{plain_attribute}
 use Rattle.mirror_core.specs.declared.fault.FeedFault.{FeedFault}
 use Rattle.mirror_core.specs.declared.fault.FeedFault.TheVariants.{Spelling, ForeignSource, ClassOut}
 use Rattle.mirror_core.specs.Mirror.{PlainMirror, PlainStream, PlainDraft, later}
 use Rattle.mirror_core.specs.Keys.{Class, class_named, is_class, key_of_attribute}
 use Rattle.mirror_core.specs.Framing.{no_lines}
-use Rattle.mirror_core.specs.Draft.{is_source_attribute, is_foreign, ends_foreign, class_fault, attribute_fault, is_out, begins_attribute, attribute_line, settled, new_line, percent_inside, object_key, applied, whole_object, empty_line, object_line, goes_on}
+use Rattle.mirror_core.specs.Draft.{is_source_attribute, is_foreign, ends_foreign, class_fault, attribute_fault, is_out, begins_attribute, attribute_line, settled, new_line, percent_inside, object_key, applied, whole_object, object_line, goes_on}
 use Rattle.mirror_core.specs.Line.{after_line}
-use Rattle.mirror_laws.proofs.Moments.{Leads, nothing_leads, both_lead, line_and_more, same_bytes}
+use Rattle.mirror_laws.proofs.Moments.{Leads, nothing_leads, both_lead, same_bytes}
 use Rattle.mirror_laws.proofs.Lines.{Objects, IsPlain, at, IsKept, is_kept, line_leads}
 use Rattle.mirror_laws.proofs.Framing.{between}
 
@@ -176,7 +176,7 @@ module _ (Q : Objects → ℕ → Type 0) (source : List ℕ) (os : Objects) (n 
       let now : PlainMirror = drafted (draft_of act (p ∷ (front ++ plain_attribute a ∷ [])) (lines + 1) (cond (lines == 0) place first) place) (later place (length (line_of a) + 1)) in
       let rest : LeadsToDraft now (attributes_text more) (p ∷ ((front ++ plain_attribute a ∷ []) ++ map plain_attribute more)) =
       more_lead (front ++ plain_attribute a ∷ []) p k more (lines + 1) (cond (lines == 0) place first) place (later place (length (line_of a) + 1)) reads.1 key
-          (ends_last source (p ∷ front) (plain_attribute a) ∙ reads.0.own) (ne_eqb (lines + 1) 0 (λ e. omega arith)) (omega arith) in
+      (ends_last source (p ∷ front) (plain_attribute a) ∙ reads.0.own) (ne_eqb (lines + 1) 0 (λ e. omega arith)) (omega arith) in
       behind a more first_leads (subst (λ (ps : List Attribute). LeadsToDraft now (attributes_text more) (p ∷ ps)) (append_assoc front (plain_attribute a ∷ []) (map plain_attribute more)) rest)
 
   -- the object's lines

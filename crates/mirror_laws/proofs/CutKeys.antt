@@ -1,24 +1,24 @@
 -- The name of a reverse cut spells its block.
-use Rattle.std.proofs.Common.{◌≡◌, ◌≢◌, ℕ, zero, suc, ◌+◌, ◌-◌, ◌*◌, ◌/◌, ◌%◌, ◌^◌, ◌<◌, ◌≤◌, Bool, true, false, ◌&&◌, ◌||◌, ◌==◌, nat_lt, nat_le, cond, List, [], ◌∷◌, ◌++◌, length, map, filter, take, drop, All, bytes_eq, codes, Option, None, Some, inl, inr, refl, sym, ap, ap₂, ◌∙◌, subst, arith, length-append, drop-drop, get_or, le-leb, pow_mono, pow_pos, pow-add, add-mul, mul_comm, length-drop}
+use Rattle.std.proofs.Common.{◌≡◌, ℕ, zero, suc, ◌+◌, ◌-◌, ◌*◌, ◌/◌, ◌%◌, ◌^◌, ◌<◌, ◌≤◌, Bool, true, false, ◌&&◌, ◌||◌, ◌==◌, nat_le, cond, List, [], ◌∷◌, ◌++◌, length, map, filter, take, drop, All, bytes_eq, codes, Option, None, Some, inl, inr, refl, sym, ap, ◌∙◌, subst, arith, length-append, drop-drop, get_or, le-leb, pow_mono, pow_pos, pow-add, add-mul, mul_comm, length-drop}
 use Rattle.std.proofs.lemmas.Bool.{cond-true, cond-false, cases_Bool, and_parts, eqb-true, leb-true, lt-leb}
 use Rattle.std.proofs.lemmas.Bool.Decides.{nat_tests}
 use Rattle.std.proofs.lemmas.List.Elements.{All-nil, All-cons, All-append}
 use Rattle.std.proofs.lemmas.Slice.Eq.{bytes_eq-Decides}
 use Rattle.std.proofs.Math.Pow.{split}
 use Rattle.std.proofs.Math.Seq.{take-append_seam, drop-append_seam}
-use Rattle.std.specs.List.{AllByRecursion, list_all, slice_split}
-use Rattle.std.specs.Option.{option_map, option_and_then, is_some}
+use Rattle.std.specs.List.{list_all, slice_split}
+use Rattle.std.specs.Option.{option_and_then, is_some}
 use Rattle.num_range.specs.declared.space.Space.{Space}
 use Rattle.num_range.specs.declared.space.Space.TheVariants.{Asn, Ipv4, Ipv6}
-use Rattle.num_range.specs.Space.{width_of, top_of}
+use Rattle.num_range.specs.Space.{width_of}
 use Rattle.num_range.specs.Range.{PlainRange, size_of}
-use Rattle.num_range.specs.Block.{IsBlockStart, block_of, block_size}
+use Rattle.num_range.specs.Block.{IsBlockStart, block_of}
 use Rattle.num_range.specs.Cover.{is_cut_length}
 use Rattle.reg_entry.specs.Whole.{IsCutBlock}
 use Rattle.reverse_zone.specs.Apex.{label_text, labels_text}
 use Rattle.reverse_zone.specs.Zone.{label_bits, label_at}
 use Rattle.reverse_zone.specs.Delegated.{address_places, domain_of, reverse_name}
-use Rattle.mirror_core.specs.Keys.{before_end, label_of, labels_of, labels_value, block_of_labels, cut_in, cut_of}
+use Rattle.mirror_core.specs.Keys.{before_end, labels_of, labels_value, block_of_labels, cut_in, cut_of}
 use Rattle.mirror_laws.proofs.Words.{IsWordByte, IsWord, bytes_same}
 use Rattle.mirror_laws.proofs.Labels.{places_from, passing, label, labels_say, places_count, IsLabel, AreLabels, octet_label, nibble_label, labels_parted, labels_read, labels_bytes}
 

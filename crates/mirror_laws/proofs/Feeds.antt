@@ -1,22 +1,21 @@
 -- The texts of a feed, one by one, and any front of a feed.
-use Rattle.std.proofs.Common.{◌≡◌, ℕ, zero, suc, ◌+◌, ◌-◌, ◌^◌, ◌<◌, ◌≤◌, max, min, Bool, true, false, List, [], ◌∷◌, ◌++◌, length, map, All, take, drop, flat_map, codes, decimal, Option, None, Some, Ok, refl, sym, ap, ◌∙◌, subst, arith, append_assoc, append-nil, length-append, length-take, length-drop, take-append-drop}
+use Rattle.std.proofs.Common.{◌≡◌, ℕ, ◌+◌, ◌-◌, ◌^◌, ◌<◌, ◌≤◌, max, true, List, [], ◌∷◌, ◌++◌, length, take, drop, flat_map, codes, decimal, Option, None, Some, refl, sym, ap, ◌∙◌, subst, arith, append_assoc, length-append, length-take, length-drop, take-append-drop}
 use Rattle.std.proofs.lemmas.List.Elements.{All-nil}
-use Rattle.std.specs.List.{AllByRecursion, fold, concat}
+use Rattle.std.specs.List.{concat}
 use Rattle.reg_entry.specs.Op.{PlainOp}
-use Rattle.reg_entry.specs.Operations.{objects_after}
 use Rattle.op_feed.specs.ReachedBoard.{HaveSerialsFrom}
 use Rattle.nrtm_stream.specs.Stream.{operation_text, stream_text, no_newer_text}
 use Rattle.mirror_core.specs.Mirror.{PlainMirror, new_mirror, is_at_rest, later}
 use Rattle.mirror_core.specs.Feed.{fed}
 use Rattle.mirror_laws.specs.Feed.{ops_between, feed_text, IsFeedPlan, last_serial, feed_of, IsFeedOf, fed_pieces}
 use Rattle.mirror_laws.specs.Follows.{Follows}
-use Rattle.mirror_laws.proofs.Moments.{Along, Leads, fed_append, at_front, nothing_leads, both_lead, line_and_more, same_bytes}
-use Rattle.mirror_laws.proofs.Lines.{Objects, IsPlain, at, IsKept, is_kept, line_leads}
+use Rattle.mirror_laws.proofs.Moments.{Leads, fed_append, at_front, nothing_leads, both_lead, line_and_more, same_bytes}
+use Rattle.mirror_laws.proofs.Lines.{IsPlain, at, IsKept, is_kept, line_leads}
 use Rattle.mirror_laws.proofs.Words.{IsSource, decimal_word, word_between}
-use Rattle.mirror_laws.proofs.PlainTexts.{IsPlainText, nil, cons, and, word, known}
+use Rattle.mirror_laws.proofs.PlainTexts.{IsPlainText, cons, and, word, known}
 use Rattle.mirror_laws.proofs.Framing.{between, start_text, no_newer_passes, start_passes, empty_passes, end_passes}
 use Rattle.mirror_laws.proofs.Operations.{decimal_short}
-use Rattle.mirror_laws.proofs.Streams.{AreReadable, held, IsHeld, P, between_operations, LeadsBehind, is_held, operations_lead, serials_parts, readable_parts}
+use Rattle.mirror_laws.proofs.Streams.{AreReadable, held, IsHeld, P, is_held, operations_lead, serials_parts, readable_parts}
 
 module _ (source : List ℕ) (is_source : IsSource source) where
   start_plain : (a b : ℕ) → a < 2 ^ 64 → b < 2 ^ 64 → IsPlainText (start_text source a b)
@@ -59,17 +58,17 @@ module _ (source : List ℕ) (ops : List PlainOp) (is_source : IsSource source) 
       let low : a < 2 ^ 64 = omega arith in
       let top : b < 2 ^ 64 = omega arith in
       let start = line_leads (IsHeld source ops) source (held source ops n) (held source ops n) n n None (between a b None) place (start_text source a b)
-          (start_short source is_source a b low top) (start_plain source is_source a b low top).each (here n high) (here n high)
-          (start_passes source (held source ops n) n place (start_text source a b) a b refl is_source.word near low top order) in
+      (start_short source is_source a b low top) (start_plain source is_source a b low top).each (here n high) (here n high)
+      (start_passes source (held source ops n) n place (start_text source a b) a b refl is_source.word near low top order) in
       let begun : ℕ = later place (length (start_text source a b) + 1) in
       let empty = line_leads (IsHeld source ops) source (held source ops n) (held source ops n) n n (between a b None) (between a b None) begun []
-          (omega arith) (All-nil IsPlain) (here n high) (here n high) (empty_passes source (held source ops n) n begun [] a b) in
+      (omega arith) (All-nil IsPlain) (here n high) (here n high) (empty_passes source (held source ops n) n begun [] a b) in
       let body = operations_lead source ops fits before left after n a b (later begun 1) (max n b) (b + 1) is (omega arith)
-          (subst (λ (k : ℕ). HaveSerialsFrom k left) (let e : 1 + length before ≡ a = omega arith in e) left_serials.0) left_reads.0 (omega arith) high (omega arith)
-          (ap (max n) (let e : b ≡ length before + length left = omega arith in e)) (omega arith) in
+      (subst (λ (k : ℕ). HaveSerialsFrom k left) (let e : 1 + length before ≡ a = omega arith in e) left_serials.0) left_reads.0 (omega arith) high (omega arith)
+      (ap (max n) (let e : b ≡ length before + length left = omega arith in e)) (omega arith) in
       let ends = line_leads (IsHeld source ops) source (held source ops (max n b)) (held source ops (max n b)) (max n b) (max n b) (between (b + 1) b None) None body.place (codes "%END " ++ source)
-          (omega (arith, is_source.short)) (end_plain source is_source).each (here (max n b) (omega arith)) (here (max n b) (omega arith))
-          (end_passes source (held source ops (max n b)) (max n b) body.place (codes "%END " ++ source) (b + 1) b refl is_source.word (omega arith)) in
+      (omega (arith, is_source.short)) (end_plain source is_source).each (here (max n b) (omega arith)) (here (max n b) (omega arith))
+      (end_passes source (held source ops (max n b)) (max n b) body.place (codes "%END " ++ source) (b + 1) b refl is_source.word (omega arith)) in
       let there : ℕ = later body.place (length (codes "%END " ++ source) + 1) in
       let m₁ : PlainMirror = at source (held source ops n) n (between a b None) [] begun in
       let m₂ : PlainMirror = at source (held source ops n) n (between a b None) [] (later begun 1) in

@@ -1,7 +1,6 @@
 -- The lines round the objects of a stream, each in its place.
-use Rattle.std.proofs.Common.{◌≡◌, ◌≢◌, ℕ, ◌+◌, ◌-◌, ◌^◌, ◌<◌, ◌≤◌, min, Bool, true, false, not, ◌||◌, ◌&&◌, ◌==◌, nat_lt, nat_le, cond, List, [], ◌∷◌, ◌++◌, length, All, decimal, codes, bytes_eq, Option, None, Some, Result, Ok, Err, refl, sym, ap, ◌∙◌, arith, ne_eqb, eq-eqb, le-ltb, lt-ltb, le-leb}
-use Rattle.std.proofs.lemmas.Bool.{cond-true, cond-false, and_from}
-use Rattle.std.proofs.lemmas.Bool.Decides.{nat_tests}
+use Rattle.std.proofs.Common.{◌≡◌, ◌≢◌, ℕ, ◌+◌, ◌-◌, ◌^◌, ◌<◌, ◌≤◌, min, true, false, ◌==◌, nat_lt, nat_le, List, [], ◌∷◌, ◌++◌, All, decimal, codes, Option, None, Some, Result, Ok, Err, refl, sym, ap, ◌∙◌, arith, ne_eqb, eq-eqb, le-ltb, lt-ltb, le-leb}
+use Rattle.std.proofs.lemmas.Bool.{cond-false}
 use Rattle.std.proofs.lemmas.Fmt.{decimal_digit}
 use Rattle.std.proofs.lemmas.List.Elements.{All-head, All-tail}
 use Rattle.std.specs.Option.{option_map}
@@ -9,11 +8,10 @@ use Rattle.addr_text.specs.Reading.{◌>>=◌, parted_at}
 use Rattle.reg_entry.specs.declared.object.Act.{Act}
 use Rattle.reg_entry.specs.declared.object.Act.TheVariants.{Add, Del}
 use Rattle.nrtm_stream.specs.Stream.{act_word}
-use Rattle.rpsl_text.specs.Lines.{words}
 use Rattle.mirror_core.specs.declared.fault.FeedFault.{FeedFault}
-use Rattle.mirror_core.specs.declared.fault.FeedFault.TheVariants.{Spelling, Gap, ForeignSource}
-use Rattle.mirror_core.specs.Mirror.{PlainMirror, PlainStream, PlainDraft, in_stream}
-use Rattle.mirror_core.specs.Framing.{Start, serial_of, start_with, wanted, started, start_line, no_lines, act_of, operation_with, operation_of, begun, operation_line, end_line, outside_line}
+use Rattle.mirror_core.specs.declared.fault.FeedFault.TheVariants.{Spelling}
+use Rattle.mirror_core.specs.Mirror.{PlainMirror, PlainStream, PlainDraft}
+use Rattle.mirror_core.specs.Framing.{Start, serial_of, start_with, started, start_line, no_lines, operation_with, operation_of, begun, operation_line, end_line}
 use Rattle.mirror_core.specs.Line.{after_line}
 use Rattle.mirror_laws.proofs.Words.{IsWord, word_between, word_first, word_alone, bytes_same, decimal_word, decimal_no_dash, decimal_read}
 use Rattle.mirror_laws.proofs.Lines.{Objects, at}
@@ -61,7 +59,6 @@ started_of m o = elim o [
   | None ↦ Err (Spelling m.place)
   | Some start ↦ started m start
 ]
-
 
 abbrev with_operation : PlainMirror → Option (Act × ℕ) → Result PlainMirror FeedFault
 with_operation m o = elim o [

@@ -1,5 +1,5 @@
 -- The labels of a reverse cut, as numbers and as text.
-use Rattle.std.proofs.Common.{◌≡◌, ◌≢◌, ℕ, zero, suc, ◌+◌, ◌-◌, ◌*◌, ◌/◌, ◌%◌, ◌^◌, ◌<◌, ◌≤◌, Bool, true, false, ◌&&◌, ◌||◌, ◌==◌, nat_lt, nat_le, List, [], ◌∷◌, ◌++◌, length, map, filter, flat_map, All, codes, decimal, Option, None, Some, refl, sym, ap, ap₂, ◌∙◌, subst, arith, append-nil, append_assoc, ne_eqb, suc-mul}
+use Rattle.std.proofs.Common.{◌≡◌, ◌≢◌, ℕ, zero, suc, ◌+◌, ◌*◌, ◌/◌, ◌%◌, ◌^◌, ◌<◌, ◌≤◌, Bool, true, false, ◌&&◌, ◌||◌, ◌==◌, nat_lt, nat_le, List, [], ◌∷◌, ◌++◌, length, map, filter, flat_map, All, codes, None, Some, refl, sym, ap, ap₂, ◌∙◌, subst, arith, append-nil, ne_eqb, suc-mul}
 use Rattle.std.proofs.lemmas.Bool.{cond-true, cond-false, cond_both}
 use Rattle.std.proofs.lemmas.Bool.Decides.{nat_tests}
 use Rattle.std.proofs.lemmas.List.Elements.{All-nil, All-cons, All-append, All-weaker}
@@ -11,9 +11,8 @@ use Rattle.std.specs.Char.{digit_char, digit_value}
 use Rattle.std.specs.List.{AllByRecursion, slice_split}
 use Rattle.std.specs.Option.{option_map, option_and_then}
 use Rattle.num_range.specs.declared.space.Space.{Space}
-use Rattle.num_range.specs.declared.space.Space.TheVariants.{Asn, Ipv4, Ipv6}
+use Rattle.num_range.specs.declared.space.Space.TheVariants.{Ipv4, Ipv6}
 use Rattle.reverse_zone.specs.Apex.{label_text, labels_text}
-use Rattle.reverse_zone.specs.Zone.{label_bits}
 use Rattle.mirror_core.specs.Keys.{label_of, labels_of, labels_value}
 use Rattle.mirror_laws.proofs.Words.{IsWordByte, IsWord, decimal_word, decimal_no_dot, decimal_read}
 

@@ -1,33 +1,31 @@
 -- A mirror that is fed the stream of a legal list of entries.
-use Rattle.std.proofs.Common.{◌≡◌, ℕ, zero, suc, ◌+◌, ◌^◌, ◌<◌, ◌≤◌, true, List, [], ◌∷◌, ◌++◌, length, map, take, drop, refl, sym, ap, ◌∙◌, subst, arith, append_assoc, length-append, take-append-drop}
+use Rattle.std.proofs.Common.{◌≡◌, ℕ, ◌+◌, ◌^◌, ◌<◌, ◌≤◌, true, List, [], ◌∷◌, ◌++◌, length, map, take, drop, refl, sym, ap, ◌∙◌, subst, arith, append_assoc, append-nil, take-append-drop, take_all}
 use Rattle.std.proofs.Math.Seq.{take-append_seam}
-use Rattle.std.specs.List.{AllByRecursion, concat}
+use Rattle.std.specs.List.{concat}
 use Rattle.reg_entry.specs.declared.rooms.Rooms.{Rooms}
 use Rattle.reg_entry.specs.declared.object.Object.{Object}
 use Rattle.reg_entry.specs.declared.object.Act.{Act}
 use Rattle.reg_entry.specs.Entry.{PlainEntry}
 use Rattle.reg_entry.specs.Op.{PlainOp}
 use Rattle.reg_entry.specs.Rooms.{AreRooms}
-use Rattle.reg_entry.specs.Register.{Register, empty_register, after_entry, after_entries, register_after}
+use Rattle.reg_entry.specs.Register.{Register, empty_register, after_entry, register_after}
 use Rattle.reg_entry.specs.Objects.{objects_of}
 use Rattle.reg_entry.specs.Operations.{PlainBoard, changes_of, numbered, operations_from, operations_of, objects_after, empty_board, board_after_entry, board_after_entries, board_after}
-use Rattle.reg_entry.specs.Next.{IsNextEntry, IsLegalFrom, IsLegal}
+use Rattle.reg_entry.specs.Next.{IsLegalFrom, IsLegal}
 use Rattle.reg_entry.specs.Whole.{IsWholeRegister}
-use Rattle.op_feed.specs.ReachedBoard.{IsBoardOf, IsReachedBoard, HaveSerialsFrom}
+use Rattle.op_feed.specs.ReachedBoard.{IsReachedBoard, HaveSerialsFrom}
 use Rattle.rpsl_text.specs.Forms.{is_source}
 use Rattle.mirror_core.specs.Mirror.{PlainMirror, new_mirror, is_at_rest}
 use Rattle.mirror_core.specs.Objects.{mirrored}
-use Rattle.mirror_core.specs.Feed.{fed}
 use Rattle.mirror_laws.specs.Feed.{IsFeedOf, last_serial, fed_pieces}
 use Rattle.mirror_laws.specs.Follows.{Follows}
 use Rattle.mirror_laws.specs.Forms.{HaveForms}
 use Rattle.mirror_laws.proofs.Words.{source_is}
-use Rattle.mirror_laws.proofs.Operations.{IsReadable}
 use Rattle.mirror_laws.proofs.Streams.{AreReadable}
 use Rattle.mirror_laws.proofs.Feeds.{front_follows, rests_behind, pieces_joined}
 use Rattle.mirror_laws.proofs.NumberTexts.{NumberLaws}
 use Rattle.mirror_laws.proofs.Readable.{LinesLaw, fit_is_readable}
-use Rattle.mirror_laws.proofs.Published.{CutsLaw, WholeLaw, AreFitOps, HasLabelForms, operations_fit}
+use Rattle.mirror_laws.proofs.Published.{CutsLaw, WholeLaw, AreFitOps, operations_fit}
 
 -- ---- serials
 
@@ -75,9 +73,6 @@ pub record StreamLaws : Type 0 where
   pub objects : (rooms : Rooms) (es : List PlainEntry) → IsLegal rooms es → objects_after (operations_of rooms es) ≡ objects_of (register_after rooms es)
 
 module _ (laws : StreamLaws) (rooms : Rooms) (es : List PlainEntry) (source : List ℕ) (are_rooms : AreRooms rooms) (legal : IsLegal rooms es) (forms : HaveForms es) (named : is_source source ≡ true) where
-  ops : List PlainOp
-  ops = operations_of rooms es
-
   few : length (operations_of rooms es) < 2 ^ 64
   few =
       let b : PlainBoard = board_after rooms es in
@@ -123,3 +118,13 @@ module _ (laws : StreamLaws) (rooms : Rooms) (es : List PlainEntry) (source : Li
       let ends = rests_behind source (operations_of rooms es) (source_is source named) few (serials_from (empty_register rooms) 0 es) readable (concat pieces) feed in
       let same = pieces_joined (new_mirror source) pieces in
       (ap is_at_rest same ∙ ends.0, ap (λ (m : PlainMirror). m.serial) same ∙ ends.1)
+
+  -- a feed to the last operation gives the objects of the register
+  pub has_all : (pieces : List (List ℕ)) (feed : IsFeedOf source (operations_of rooms es) (concat pieces)) → last_serial 0 feed.texts ≡ length (operations_of rooms es)
+      → (fed_pieces (new_mirror source) pieces).objects ≡ map (mirrored source) (objects_of (register_after rooms es))
+  has_all pieces feed last =
+      let m : PlainMirror = fed_pieces (new_mirror source) pieces in
+      let all : take (length es) es ≡ es = take_all (length es) es (omega arith) in
+      let unended : IsFeedOf source (operations_of rooms es) (concat pieces ++ []) = subst (IsFeedOf source (operations_of rooms es)) (sym (append-nil (concat pieces))) feed in
+      has_objects pieces [] (length es) unended ((rests pieces feed).1 ∙ last ∙ ap (λ (fs : List PlainEntry). length (operations_of rooms fs)) (sym all))
+      ∙ ap (λ (fs : List PlainEntry). map (mirrored source) (objects_of (register_after rooms fs))) all

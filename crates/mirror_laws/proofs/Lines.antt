@@ -1,11 +1,10 @@
 -- A mirror without a fault, and what one line does to it.
-use Rattle.std.proofs.Common.{◌≡◌, ◌≢◌, ℕ, ◌+◌, ◌-◌, ◌≤◌, true, false, ◌==◌, nat_lt, List, [], ◌∷◌, ◌++◌, length, get_or, take, All, Option, None, Some, Result, Ok, refl, sym, ap, ◌∙◌, arith, append_assoc, append-nil, length-append, length-take, ne_eqb}
+use Rattle.std.proofs.Common.{◌≡◌, ◌≢◌, ℕ, ◌+◌, ◌-◌, ◌≤◌, false, ◌==◌, List, [], ◌∷◌, ◌++◌, length, get_or, take, All, Option, None, Ok, refl, sym, ap, ◌∙◌, arith, append_assoc, append-nil, length-append, length-take, ne_eqb}
 use Rattle.std.proofs.lemmas.Bool.{cond-false, cond_both}
 use Rattle.std.proofs.lemmas.Bool.Decides.{nat_tests}
 use Rattle.std.proofs.lemmas.List.Elements.{All-head, All-tail, All-get_or}
 use Rattle.std.specs.Str.Lines.{strip_carriage_return}
 use Rattle.reg_entry.specs.declared.object.Key.{Key}
-use Rattle.mirror_core.specs.declared.fault.FeedFault.{FeedFault}
 use Rattle.mirror_core.specs.Mirror.{PlainMirror, PlainStream, later, broken}
 use Rattle.mirror_core.specs.Line.{after_line, is_too_long, long_fault}
 use Rattle.mirror_core.specs.Feed.{at_line, behind_line, with_line_end, with_line_byte, after_byte}

@@ -1,6 +1,5 @@
 -- One operation of a stream.
-use Rattle.std.proofs.Common.{◌≡◌, ℕ, ◌+◌, ◌^◌, ◌<◌, ◌≤◌, Bool, true, false, ◌==◌, nat_lt, List, [], ◌∷◌, ◌++◌, length, map, All, codes, decimal, Option, None, Some, Result, Ok, refl, sym, ap, ◌∙◌, subst, arith, append_assoc}
-use Rattle.std.proofs.lemmas.Bool.{cond-true, cond-false}
+use Rattle.std.proofs.Common.{◌≡◌, ℕ, ◌+◌, ◌^◌, ◌<◌, ◌≤◌, true, List, [], ◌∷◌, ◌++◌, length, All, codes, decimal, None, Some, Ok, refl, ap, ◌∙◌, arith, append_assoc}
 use Rattle.std.proofs.lemmas.Fmt.{length-decimal-le}
 use Rattle.std.proofs.lemmas.List.Elements.{All-nil}
 use Rattle.std.specs.List.{list_any}
@@ -11,18 +10,17 @@ use Rattle.reg_entry.specs.declared.object.Object.{Object}
 use Rattle.reg_entry.specs.Op.{PlainOp}
 use Rattle.reg_entry.specs.Objects.{key_of}
 use Rattle.nrtm_stream.specs.Stream.{act_word, operation_text}
-use Rattle.rpsl_text.specs.Object.{attributes_of, attributes_text, object_text}
-use Rattle.rpsl_text.specs.Plain.{plain_attribute, plain_attributes}
-use Rattle.mirror_core.specs.Mirror.{PlainMirror, PlainStream, PlainDraft, later}
+use Rattle.rpsl_text.specs.Object.{attributes_of, object_text}
+use Rattle.rpsl_text.specs.Plain.{plain_attributes}
+use Rattle.mirror_core.specs.Mirror.{PlainDraft, later}
 use Rattle.mirror_core.specs.Framing.{no_lines}
-use Rattle.mirror_core.specs.Objects.{operated}
-use Rattle.mirror_core.specs.Draft.{is_source_attribute, ends_foreign, attribute_fault, object_key, applied}
-use Rattle.mirror_laws.proofs.Moments.{Leads, nothing_leads, both_lead, line_and_more, same_bytes}
-use Rattle.mirror_laws.proofs.Lines.{Objects, IsPlain, at, IsKept, is_kept, line_leads}
+use Rattle.mirror_core.specs.Draft.{is_source_attribute, attribute_fault, object_key, applied}
+use Rattle.mirror_laws.proofs.Moments.{Leads, both_lead, line_and_more, same_bytes}
+use Rattle.mirror_laws.proofs.Lines.{Objects, IsPlain, at, IsKept, line_leads}
 use Rattle.mirror_laws.proofs.Words.{decimal_word}
 use Rattle.mirror_laws.proofs.PlainTexts.{IsPlainText, cons, and, word, known}
 use Rattle.mirror_laws.proofs.Framing.{between, act_passes, empty_act_passes}
-use Rattle.mirror_laws.proofs.Attributes.{Attribute, draft_of, AreRead, LeadsToDraft, object_leads, object_ends, nothing_wrong, none_foreign}
+use Rattle.mirror_laws.proofs.Attributes.{Attribute, draft_of, AreRead, object_leads, object_ends, nothing_wrong, none_foreign}
 
 -- an object whose text is read as it is
 pub record IsReadable (source : List ℕ) (o : Object) : Type 0 where
@@ -68,8 +66,7 @@ module _ (Q : Objects → ℕ → Type 0) (source : List ℕ) (os ks : Objects) 
       let lines = object_leads Q source os n next last act here (attributes_of o source) (key_of o) place h.lines h.few h.key in
       let d : PlainDraft = draft_of act (plain_attributes o source) lines.lines lines.first lines.before in
       let right : attribute_fault source d ≡ None = nothing_wrong source d (key_of o) (none_foreign source (attributes_of o source) h.lines) h.key in
-      let ends = object_ends source os n lines.place next last [] act (plain_attributes o source) lines.lines lines.first lines.before (key_of o) lines.some right h.key h.sourced in
-      (
+      let ends = object_ends source os n lines.place next last [] act (plain_attributes o source) lines.lines lines.first lines.before (key_of o) lines.some right h.key h.sourced in (
         _,
         both_lead (IsKept Q) _ _ _ (object_text o source) (10 ∷ []) lines.leads
             (line_leads Q source os ks n k (between next last (Some d)) (between (next + 1) last None) lines.place [] (omega arith) (All-nil IsPlain) here then_
@@ -82,11 +79,10 @@ module _ (Q : Objects → ℕ → Type 0) (source : List ℕ) (os ks : Objects) 
       → (there : ℕ) × Leads (IsKept Q) (at source os n (between next last None) [] place) (operation_text source op) (at source ks k (between (next + 1) last None) [] there)
   operation_leads op place numbered fits order h makes =
       let act_is = line_leads Q source os os n n (between next last None) (between next last (Some (no_lines op.act))) place (act_line op.act next) (act_short op.act next fits)
-          (act_plain op.act next fits) here here (act_passes source os n place (act_line op.act next) op.act next last refl fits order) in
+      (act_plain op.act next fits) here here (act_passes source os n place (act_line op.act next) op.act next last refl fits order) in
       let empty_is = line_leads Q source os os n n (between next last (Some (no_lines op.act))) (between next last (Some (no_lines op.act)))
-          (later place (length (act_line op.act next) + 1)) [] (omega arith) (All-nil IsPlain) here here (empty_act_passes source os n _ [] op.act next last) in
-      let rest = text_leads op.act op.object (later (later place (length (act_line op.act next) + 1)) 1) h makes in
-      (
+      (later place (length (act_line op.act next) + 1)) [] (omega arith) (All-nil IsPlain) here here (empty_act_passes source os n _ [] op.act next last) in
+      let rest = text_leads op.act op.object (later (later place (length (act_line op.act next) + 1)) 1) h makes in (
         rest.0,
         same_bytes (IsKept Q) _ _ (operation_text source op) (act_line op.act next ++ 10 ∷ ([] ++ 10 ∷ (object_text op.object source ++ 10 ∷ [])))
             (ap (λ (k : ℕ). operation_text source (record { serial = k; act = op.act; object = op.object })) numbered ∙ simp append_assoc)

@@ -1,11 +1,11 @@
 -- A mirror's map changes as the register's objects do.
-use Rattle.std.proofs.Common.{◌≡◌, ℕ, Bool, true, false, not, cond, List, [], ◌∷◌, ◌++◌, filter, map, refl, sym, ap, ap₂, ◌∙◌}
+use Rattle.std.proofs.Common.{◌≡◌, ℕ, Bool, true, false, not, cond, List, [], ◌∷◌, ◌++◌, map, refl, ap, ◌∙◌}
 use Rattle.reg_entry.specs.declared.object.Key.{Key}
 use Rattle.reg_entry.specs.declared.object.Act.{Act}
 use Rattle.reg_entry.specs.declared.object.Act.TheVariants.{Add, Del}
 use Rattle.reg_entry.specs.declared.object.Object.{Object}
 use Rattle.reg_entry.specs.Op.{PlainOp}
-use Rattle.reg_entry.specs.Objects.{key_of, same_key, key_before, has_key, with_object, without_key, changed, played}
+use Rattle.reg_entry.specs.Objects.{key_of, key_before, has_key, with_object, without_key, changed, played}
 use Rattle.reg_entry.specs.Operations.{change_of, objects_after}
 use Rattle.rpsl_text.specs.Plain.{plain_attributes}
 use Rattle.mirror_core.specs.Objects.{with_attributes, without_object, operated, mirrored}

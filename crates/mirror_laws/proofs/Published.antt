@@ -1,5 +1,5 @@
 -- Each object of the operations of a legal list of entries is one that is read back.
-use Rattle.std.proofs.Common.{◌≡◌, ℕ, zero, suc, ◌+◌, ◌<◌, ◌≤◌, Bool, true, false, cond, List, [], ◌∷◌, ◌++◌, length, filter, map, flat_map, fold, All, IsTrue, Contains, Option, None, Some, inl, inr, ◌↔◌, ◌⊎◌, refl, sym, ap, ◌∙◌, subst, arith, get_or}
+use Rattle.std.proofs.Common.{◌≡◌, ℕ, zero, suc, ◌+◌, ◌<◌, ◌≤◌, Bool, true, cond, List, [], ◌∷◌, ◌++◌, length, filter, map, flat_map, fold, All, IsTrue, Contains, Option, None, Some, inl, inr, ◌↔◌, refl, sym, subst, arith}
 use Rattle.std.proofs.lemmas.Bool.{cond_both, cases_Bool}
 use Rattle.std.specs.List.{AllByRecursion}
 use Rattle.std.specs.Option.{IsSomeAnd}
@@ -15,9 +15,9 @@ use Rattle.reg_entry.specs.declared.holder.Holder.{Holder}
 use Rattle.reg_entry.specs.declared.piece.Piece.{Piece}
 use Rattle.reg_entry.specs.declared.sub_card.SubCard.{SubCard}
 use Rattle.reg_entry.specs.declared.request.Request.{Request}
-use Rattle.reg_entry.specs.declared.request.Request.TheVariants.{Receive, AddHolder, EditHolder, Delegate, Reserve, Unreserve, SubAssign, SubReturn, Return, Release, Split, Join, Transfer, SetReverse, ClearReverse}
+use Rattle.reg_entry.specs.declared.request.Request.TheVariants.{AddHolder, EditHolder, Return, SetReverse, ClearReverse}
 use Rattle.reg_entry.specs.declared.object.Object.{Object}
-use Rattle.reg_entry.specs.declared.object.Object.TheVariants.{Org, Block, Sub, Cut}
+use Rattle.reg_entry.specs.declared.object.Object.TheVariants.{Cut}
 use Rattle.reg_entry.specs.declared.object.Act.{Act}
 use Rattle.reg_entry.specs.declared.object.Act.TheVariants.{Add, Del}
 use Rattle.reg_entry.specs.Card.{is_delegated}
@@ -26,13 +26,13 @@ use Rattle.reg_entry.specs.Handle.{is_handle}
 use Rattle.reg_entry.specs.Host.{is_host}
 use Rattle.reg_entry.specs.Holders.{has_handle, handle_at, handle_of, edited_holder}
 use Rattle.reg_entry.specs.Op.{PlainOp}
-use Rattle.reg_entry.specs.Pieces.{RisesFrom, AllPiecesOf, ArePieces}
+use Rattle.reg_entry.specs.Pieces.{RisesFrom, AllPiecesOf}
 use Rattle.reg_entry.specs.Ranges.{AreApart, same_range, range_before, with_range}
 use Rattle.reg_entry.specs.Register.{Register, after_entry, holders_after, reverses_after}
-use Rattle.reg_entry.specs.Objects.{key_of, key_before, has_key, with_object, org_of, orgs_of, block_of_piece, blocks_of, sub_of, cuts_of, objects_of, objects_gone, objects_come, changes_between}
+use Rattle.reg_entry.specs.Objects.{key_of, key_before, has_key, with_object, org_of, orgs_of, blocks_of, sub_of, cuts_of, objects_of, objects_gone, objects_come, changes_between}
 use Rattle.reg_entry.specs.Operations.{changes_of, numbered, operations_from}
 use Rattle.reg_entry.specs.Next.{IsNextEntry, IsLegalFrom}
-use Rattle.reg_entry.specs.Whole.{IsCardIn, HaveCardsIn, IsSubIn, AreSubsIn, AreReversesIn, IsCutBlock, IsWholeRegister}
+use Rattle.reg_entry.specs.Whole.{IsCardIn, HaveCardsIn, AreSubsIn, AreReversesIn, IsCutBlock, IsWholeRegister}
 use Rattle.rpsl_text.specs.Forms.{HasFields, HasHandle}
 use Rattle.mirror_laws.specs.Forms.{HasRequestForms, HaveForms}
 use Rattle.mirror_laws.proofs.Readable.{IsFit}
@@ -137,8 +137,7 @@ blocks_fit : (r : Register) (space : Space) (low : ℕ) (ps : List Piece) → Ho
     → AreFit (blocks_of r.holders ps)
 blocks_fit r space low [] h cards rises each = tt
 blocks_fit r space low (p ∷ ps) h cards rises each =
-    let range : IsRange p.range = (rises.1, subst (λ s. p.range.last ≤ top_of s) (sym each.0.of_space) each.0.within) in
-    (
+    let range : IsRange p.range = (rises.1, subst (λ s. p.range.last ≤ top_of s) (sym each.0.of_space) each.0.within) in (
       record { forms = (range, card_handle_fit r p.card h cards.0); cut = tt; servers = tt },
       blocks_fit r space (p.range.last + 1) ps h cards.1 rises.2 each.1,
     )
@@ -160,8 +159,7 @@ CutsLaw = (r b : PlainRange) → Contains (reverse_cuts r) b ↔ IsReverseCut r 
 
 cut_fit : (r b : PlainRange) → IsReverseCut r b → IsCutBlock b
 cut_fit r b h =
-    let same = sym h.is_cut.inside.0 in
-    (
+    let same = sym h.is_cut.inside.0 in (
       h.length,
       subst (λ space. is_cut_length space h.length ≡ true) same h.is_cut.cut_length,
       subst (λ space. IsBlockStart space b.first h.length) same h.is_cut.starts,

@@ -1,23 +1,22 @@
 -- The key of a piece and of a sub, as their first attributes spell it.
-use Rattle.std.proofs.Common.{◌≡◌, ◌≢◌, ℕ, ◌+◌, ◌-◌, ◌<◌, ◌≤◌, Bool, true, false, ◌&&◌, ◌==◌, nat_le, cond, List, [], ◌∷◌, ◌++◌, length, take, drop, get_or, fold, All, codes, Option, None, Some, refl, sym, ap, ap₂, ◌∙◌, subst, arith, append_assoc, length-append, eq-eqb, le-leb}
-use Rattle.std.proofs.lemmas.Bool.{cond-true, cond-false, and_from}
+use Rattle.std.proofs.Common.{◌≡◌, ◌≢◌, ℕ, ◌-◌, ◌<◌, ◌&&◌, ◌==◌, nat_le, cond, List, [], ◌∷◌, ◌++◌, length, take, get_or, codes, Option, None, Some, refl, sym, ap, ◌∙◌, arith, append_assoc, length-append, eq-eqb, le-leb}
+use Rattle.std.proofs.lemmas.Bool.{cond-true, and_from}
 use Rattle.std.proofs.lemmas.List.{get_or_push}
 use Rattle.std.proofs.lemmas.List.Elements.{All-nil, All-cons, All-append}
 use Rattle.std.proofs.Math.Seq.{take-append_seam}
-use Rattle.std.specs.Option.{option_map, option_and_then, is_some}
+use Rattle.std.specs.Option.{option_and_then, is_some}
 use Rattle.num_range.specs.declared.space.Space.{Space}
-use Rattle.num_range.specs.declared.space.Space.TheVariants.{Asn, Ipv4, Ipv6}
-use Rattle.num_range.specs.Space.{space_rank, same_space, top_of}
-use Rattle.num_range.specs.Number.{PlainNumber, IsNumber}
+use Rattle.num_range.specs.Space.{space_rank, same_space}
+use Rattle.num_range.specs.Number.{PlainNumber}
 use Rattle.num_range.specs.Range.{PlainRange, IsRange}
-use Rattle.addr_text.specs.Number.{text_of, number_text}
+use Rattle.addr_text.specs.Number.{text_of}
 use Rattle.addr_text.specs.Reading.{◌>>=◌, parted_at, number_of, range_between, whole_block_of}
 use Rattle.desk_text.specs.ReplyText.{spaced_range}
 use Rattle.rpsl_text.specs.Lines.{words, with_word, with_words}
 use Rattle.mirror_core.specs.Keys.{without_last_blank, without_first_blank, spaced_range_of, range_key, range_key_in}
 use Rattle.mirror_laws.proofs.Words.{IsWord, IsWordByte, word_first, word_alone}
 use Rattle.mirror_laws.proofs.Framing.{parted}
-use Rattle.mirror_laws.proofs.NumberTexts.{IsKeyText, key_word, no_dash, number_key, NumberLaws, number_read}
+use Rattle.mirror_laws.proofs.NumberTexts.{key_word, no_dash, number_key, NumberLaws, number_read}
 
 -- ---- a value as it is read
 

@@ -1,5 +1,5 @@
 -- The objects of a whole register are read back from their texts.
-use Rattle.std.proofs.Common.{◌≡◌, ℕ, ◌+◌, ◌<◌, ◌≤◌, Bool, true, false, not, ◌&&◌, ◌||◌, ◌==◌, nat_le, cond, List, [], ◌∷◌, ◌++◌, length, map, All, IsTrue, bytes_eq, codes, Option, None, Some, refl, sym, ap, ◌∙◌, subst, arith, length-append, get_or, ne_eqb}
+use Rattle.std.proofs.Common.{◌≡◌, ℕ, ◌≤◌, true, false, not, ◌&&◌, ◌==◌, nat_le, List, [], ◌∷◌, ◌++◌, length, map, All, IsTrue, bytes_eq, codes, Option, None, Some, refl, ap, ◌∙◌, subst, arith, length-append, get_or, ne_eqb}
 use Rattle.std.proofs.lemmas.Bool.{and_parts, or_right, cond_both, cond-true}
 use Rattle.std.proofs.lemmas.Bool.Decides.{nat_tests}
 use Rattle.std.proofs.lemmas.List.{length-map}
@@ -9,7 +9,6 @@ use Rattle.std.specs.Option.{option_map}
 use Rattle.num_range.specs.declared.space.Space.{Space}
 use Rattle.num_range.specs.declared.space.Space.TheVariants.{Asn, Ipv4, Ipv6}
 use Rattle.num_range.specs.Range.{PlainRange, IsRange}
-use Rattle.reg_entry.specs.declared.object.Key.{Key}
 use Rattle.reg_entry.specs.declared.object.Key.TheVariants.{Org as OrgKey, Block as BlockKey, Sub as SubKey, Cut as CutKey}
 use Rattle.reg_entry.specs.declared.object.Object.{Object}
 use Rattle.reg_entry.specs.declared.object.Object.TheVariants.{Org, Block, Sub, Cut}

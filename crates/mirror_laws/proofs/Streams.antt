@@ -1,27 +1,21 @@
 -- The operations of a stream, one by one, and the streams of a feed.
-use Rattle.std.proofs.Common.{◌≡◌, ℕ, zero, suc, ◌+◌, ◌-◌, ◌^◌, ◌<◌, ◌≤◌, max, Bool, true, false, nat_lt, List, [], ◌∷◌, ◌++◌, length, map, take, drop, flat_map, codes, decimal, Option, None, Some, Ok, inl, inr, refl, sym, ap, ap₂, ◌∙◌, subst, arith, append_assoc, append-nil, length-append, length-take, length-drop, take-append-drop, lt-ltb, le-ltb}
+use Rattle.std.proofs.Common.{◌≡◌, ℕ, suc, ◌+◌, ◌^◌, ◌<◌, ◌≤◌, max, nat_lt, List, [], ◌∷◌, ◌++◌, length, map, take, flat_map, None, inl, inr, refl, sym, ap, ap₂, ◌∙◌, subst, arith, append_assoc, length-append, lt-ltb, le-ltb}
 use Rattle.std.proofs.lemmas.Bool.{cases_Bool, cond-true, cond-false}
 use Rattle.std.proofs.lemmas.Bool.Decides.{nat_tests}
-use Rattle.std.proofs.lemmas.List.Elements.{All-nil}
 use Rattle.std.proofs.Math.Seq.{take-append_seam}
 use Rattle.std.specs.List.{AllByRecursion}
 use Rattle.reg_entry.specs.Op.{PlainOp}
-use Rattle.reg_entry.specs.Objects.{key_of, changed}
-use Rattle.reg_entry.specs.Operations.{change_of, objects_after}
+use Rattle.reg_entry.specs.Objects.{key_of}
+use Rattle.reg_entry.specs.Operations.{objects_after}
 use Rattle.op_feed.specs.ReachedBoard.{HaveSerialsFrom}
-use Rattle.nrtm_stream.specs.Stream.{operation_text, stream_text, no_newer_text}
+use Rattle.nrtm_stream.specs.Stream.{operation_text}
 use Rattle.rpsl_text.specs.Plain.{plain_attributes}
-use Rattle.mirror_core.specs.Mirror.{PlainMirror, PlainDraft, new_mirror, later}
+use Rattle.mirror_core.specs.Mirror.{PlainMirror}
 use Rattle.mirror_core.specs.Objects.{operated, mirrored}
-use Rattle.mirror_core.specs.Draft.{applied}
-use Rattle.mirror_laws.specs.Feed.{ops_between, feed_text, IsFeedPlan, last_serial, feed_of}
-use Rattle.mirror_laws.proofs.Moments.{Leads, nothing_leads, both_lead, line_and_more, same_bytes}
-use Rattle.mirror_laws.proofs.Lines.{Objects, IsPlain, at, IsKept, is_kept, line_leads}
-use Rattle.mirror_laws.proofs.Words.{IsSource, decimal_word, word_between}
-use Rattle.mirror_laws.proofs.PlainTexts.{IsPlainText, nil, cons, and, word, known}
-use Rattle.mirror_laws.proofs.Framing.{between, start_text, no_newer_passes, start_passes, empty_passes, end_passes}
-use Rattle.mirror_laws.proofs.Attributes.{draft_of}
-use Rattle.mirror_laws.proofs.Operations.{IsReadable, Makes, operation_leads, decimal_short}
+use Rattle.mirror_laws.proofs.Moments.{Leads, nothing_leads, both_lead}
+use Rattle.mirror_laws.proofs.Lines.{Objects, at, IsKept, is_kept}
+use Rattle.mirror_laws.proofs.Framing.{between}
+use Rattle.mirror_laws.proofs.Operations.{IsReadable, Makes, operation_leads}
 use Rattle.mirror_laws.proofs.Playing.{operated_same, after_one}
 
 -- ---- parts of a list
@@ -120,14 +114,14 @@ module _ (source : List ℕ) (ops : List PlainOp) (fits : length ops < 2 ^ 64) w
             let same : operated (held source ops n) op.act (key_of op.object) (plain_attributes op.object source) ≡ held source ops next =
             one_more before (left ++ after) op n is (omega arith) ∙ ap (held source ops) (let e : n + 1 ≡ next = omega arith in e) in
             let one = operation_leads (IsHeld source ops) source (held source ops n) (held source ops next) n next next last here there op place serials.0 small (omega arith) reads.0
-                (makes_new op n next last here there less same) in
+            (makes_new op n next last here there less same) in
             behind_one (between_operations next (next + 1) last one.0) op left one.1
             (operations_lead (before ++ op ∷ []) left after next (next + 1) last one.0 n' next' rest_is (omega arith) serials.1 reads.1 (omega arith) (omega arith) (omega arith)
             (omega arith) (omega arith))
         | inr old ↦
             let less : next ≤ n = grind (arith, nat_tests) in
             let one = operation_leads (IsHeld source ops) source (held source ops n) (held source ops n) n n next last here here op place serials.0 small (omega arith) reads.0
-                (makes_old op n next last here here less) in
+            (makes_old op n next last here here less) in
             behind_one (between_operations n (next + 1) last one.0) op left one.1
             (operations_lead (before ++ op ∷ []) left after n (next + 1) last one.0 n' next' rest_is (omega arith) serials.1 reads.1 (omega arith) high (omega arith)
             (omega arith) (omega arith))

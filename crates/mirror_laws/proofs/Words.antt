@@ -1,5 +1,5 @@
 -- Words between blanks, and decimals as words.
-use Rattle.std.proofs.Common.{◌≡◌, ◌≢◌, ℕ, ◌-◌, ◌^◌, ◌<◌, ◌≤◌, Bool, true, false, ◌&&◌, ◌==◌, nat_lt, nat_le, cond, List, [], ◌∷◌, ◌++◌, length, filter, All, decimal, bytes_eq, Option, None, Some, refl, sym, ap, ◌∙◌, arith, le-ltb, lt-ltb, le-leb, eq-eqb, ne_eqb, length-append}
+use Rattle.std.proofs.Common.{◌≡◌, ◌≢◌, ℕ, ◌^◌, ◌<◌, ◌≤◌, Bool, true, false, ◌&&◌, ◌==◌, nat_lt, nat_le, cond, List, [], ◌∷◌, ◌++◌, length, filter, All, decimal, bytes_eq, None, Some, refl, ap, ◌∙◌, arith, lt-ltb, le-leb, ne_eqb, length-append}
 use Rattle.std.proofs.lemmas.Bool.{and_parts, and_from, or_from, cond-true}
 use Rattle.std.proofs.lemmas.Bool.Decides.{nat_tests}
 use Rattle.std.proofs.lemmas.Fmt.{decimal_is_IsNumeral, decimal_nonempty}
@@ -7,8 +7,7 @@ use Rattle.std.proofs.lemmas.List.Elements.{All-nil, All-cons, All-append, All-w
 use Rattle.std.proofs.lemmas.List.Splits.{slice_split_none, slice_split_at}
 use Rattle.std.proofs.lemmas.Slice.Eq.{bytes_eq-Decides}
 use Rattle.std.proofs.lemmas.Str.Parse.{digit_at}
-use Rattle.std.specs.List.{list_all, slice_split}
-use Rattle.std.specs.Str.Parse.{digits_value}
+use Rattle.std.specs.List.{list_all}
 use Rattle.addr_text.specs.Reading.{decimal_up_to}
 use Rattle.rpsl_text.specs.Forms.{is_source_byte, is_source}
 use Rattle.rpsl_text.specs.Lines.{is_blank, words}

@@ -51,7 +51,8 @@ pub fn mirrors_follow_feeds()
     lines_are_read_alone();
 }
 
-/// Fed all of such a feed a mirror is at rest, and has the greatest serial of its texts, or 0 where there is none.
+/// Fed all of such a feed a mirror is at rest, and has the greatest serial of its texts, or 0 where there is none. Where that
+/// is the serial of the last operation there is, it holds the objects of the register.
 pub fn mirrors_rest_behind_feeds()
     ensures rest { (rooms : Rooms) (es : List PlainEntry) (source : List ℕ) (pieces : List (List ℕ))
         → AreRooms rooms → IsLegal rooms es → HaveForms es → IsTrue (is_source source)
@@ -61,6 +62,11 @@ pub fn mirrors_rest_behind_feeds()
         → AreRooms rooms → IsLegal rooms es → HaveForms es → IsTrue (is_source source)
         → (feed : IsFeedOf source (operations_of rooms es) (concat pieces))
         → (fed_pieces (new_mirror source) pieces).serial ≡ last_serial 0 feed.texts }
+    ensures objects { (rooms : Rooms) (es : List PlainEntry) (source : List ℕ) (pieces : List (List ℕ))
+        → AreRooms rooms → IsLegal rooms es → HaveForms es → IsTrue (is_source source)
+        → (feed : IsFeedOf source (operations_of rooms es) (concat pieces))
+        → last_serial 0 feed.texts ≡ length (operations_of rooms es)
+        → (fed_pieces (new_mirror source) pieces).objects ≡ map (mirrored source) (objects_of (register_after rooms es)) }
 {
     computes_spelled();
     reads_written();

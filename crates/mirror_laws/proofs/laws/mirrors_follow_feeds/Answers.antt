@@ -1,6 +1,6 @@
 use Rattle.std.proofs.Common.{[]}
 use Rattle.mirror_laws.proofs.NumberTexts.{NumberLaws}
-use Rattle.mirror_laws.proofs.Legal.{StreamLaws, follows, has_objects, rests}
+use Rattle.mirror_laws.proofs.Legal.{StreamLaws, follows, has_objects}
 use Rattle.mirror_laws.proofs.laws.mirrors_follow_feeds.Goals as goal
 
 pub returns : goal.returns

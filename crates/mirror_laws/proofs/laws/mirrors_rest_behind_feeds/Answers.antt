@@ -1,6 +1,6 @@
 use Rattle.std.proofs.Common.{[]}
 use Rattle.mirror_laws.proofs.NumberTexts.{NumberLaws}
-use Rattle.mirror_laws.proofs.Legal.{StreamLaws, follows, has_objects, rests}
+use Rattle.mirror_laws.proofs.Legal.{StreamLaws, rests, has_all}
 use Rattle.mirror_laws.proofs.laws.mirrors_rest_behind_feeds.Goals as goal
 
 pub returns : goal.returns
@@ -23,4 +23,5 @@ returns c =
     record {
       rest = λ rooms es source pieces are_rooms legal forms named feed. (rests laws rooms es source are_rooms legal forms named pieces feed).0;
       serial = λ rooms es source pieces are_rooms legal forms named feed. (rests laws rooms es source are_rooms legal forms named pieces feed).1;
+      objects = λ rooms es source pieces are_rooms legal forms named feed last. has_all laws rooms es source are_rooms legal forms named pieces feed last;
     }
