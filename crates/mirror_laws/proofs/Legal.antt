@@ -19,7 +19,7 @@ use Rattle.mirror_core.specs.Mirror.{PlainMirror, new_mirror, is_at_rest}
 use Rattle.mirror_core.specs.Objects.{mirrored}
 use Rattle.mirror_laws.specs.Feed.{IsFeedOf, last_serial, fed_pieces}
 use Rattle.mirror_laws.specs.Follows.{Follows}
-use Rattle.mirror_laws.specs.Forms.{HaveForms}
+use Rattle.mirror_laws.specs.Forms.{ArePublished}
 use Rattle.mirror_laws.proofs.Words.{source_is}
 use Rattle.mirror_laws.proofs.Streams.{AreReadable}
 use Rattle.mirror_laws.proofs.Feeds.{front_follows, rests_behind, pieces_joined}
@@ -72,28 +72,28 @@ pub record StreamLaws : Type 0 where
   pub bound : (b : PlainBoard) → AreRooms b.register.rooms → IsReachedBoard b → b.serial ≤ 2 ^ 58
   pub objects : (rooms : Rooms) (es : List PlainEntry) → IsLegal rooms es → objects_after (operations_of rooms es) ≡ objects_of (register_after rooms es)
 
-module _ (laws : StreamLaws) (rooms : Rooms) (es : List PlainEntry) (source : List ℕ) (are_rooms : AreRooms rooms) (legal : IsLegal rooms es) (forms : HaveForms es) (named : is_source source ≡ true) where
+module _ (laws : StreamLaws) (rooms : Rooms) (es : List PlainEntry) (source : List ℕ) (are : ArePublished rooms es source) where
   few : length (operations_of rooms es) < 2 ^ 64
   few =
       let b : PlainBoard = board_after rooms es in
       let same : b.register.rooms ≡ rooms = rooms_kept (empty_board rooms) es in
-      let reached : IsReachedBoard b = (es, record { legal = subst (λ (rs : Rooms). IsLegal rs es) (sym same) legal; same = ap (λ (rs : Rooms). board_after rs es) same }) in
-      let least = laws.bound b (subst AreRooms (sym same) are_rooms) reached in
+      let reached : IsReachedBoard b = (es, record { legal = subst (λ (rs : Rooms). IsLegal rs es) (sym same) are.legal; same = ap (λ (rs : Rooms). board_after rs es) same }) in
+      let least = laws.bound b (subst AreRooms (sym same) are.room) reached in
       let count = laws.serial rooms es in
       omega arith
 
   readable : AreReadable source (operations_of rooms es)
-  readable = each (operations_of rooms es) (operations_fit laws.cuts laws.whole (empty_register rooms) 0 es (laws.empty rooms) (record { holders = tt; hosts = tt }) legal forms)
+  readable = each (operations_of rooms es) (operations_fit laws.cuts laws.whole (empty_register rooms) 0 es (laws.empty rooms) (record { holders = tt; hosts = tt }) are.legal are.forms)
     where
       each : (os : List PlainOp) → AreFitOps os → AreReadable source os
       each [] h = tt
-      each (op ∷ os) h = (fit_is_readable laws.numbers laws.lines source op.object named h.0, each os h.1)
+      each (op ∷ os) h = (fit_is_readable laws.numbers laws.lines source op.object are.named h.0, each os h.1)
 
   pub follows : (pieces : List (List ℕ)) (rest : List ℕ) → IsFeedOf source (operations_of rooms es) (concat pieces ++ rest)
       → Follows source (operations_of rooms es) (fed_pieces (new_mirror source) pieces)
   follows pieces rest feed =
       subst (Follows source (operations_of rooms es)) (sym (pieces_joined (new_mirror source) pieces))
-      (front_follows source (operations_of rooms es) (source_is source named) few (serials_from (empty_register rooms) 0 es) readable (concat pieces) rest feed)
+      (front_follows source (operations_of rooms es) (source_is source are.named) few (serials_from (empty_register rooms) 0 es) readable (concat pieces) rest feed)
 
   pub has_objects : (pieces : List (List ℕ)) (rest : List ℕ) (k : ℕ) → IsFeedOf source (operations_of rooms es) (concat pieces ++ rest)
       → (fed_pieces (new_mirror source) pieces).serial ≡ length (operations_of rooms (take k es))
@@ -102,7 +102,7 @@ module _ (laws : StreamLaws) (rooms : Rooms) (es : List PlainEntry) (source : Li
       let m : PlainMirror = fed_pieces (new_mirror source) pieces in
       let firsts : List PlainEntry = take k es in
       let whole : es ≡ firsts ++ drop k es = sym (take-append-drop k es) in
-      let their_legal : IsLegal rooms firsts = legal_front (empty_register rooms) firsts (drop k es) (subst (IsLegal rooms) whole legal) in
+      let their_legal : IsLegal rooms firsts = legal_front (empty_register rooms) firsts (drop k es) (subst (IsLegal rooms) whole are.legal) in
       let front = operations_front (empty_register rooms) 0 firsts (drop k es) in
       let all : operations_of rooms es ≡ operations_of rooms firsts ++ front.0 = ap (operations_of rooms) whole ∙ front.1 in
       let taken : take (length (operations_of rooms firsts)) (operations_of rooms es) ≡ operations_of rooms firsts =
@@ -115,7 +115,7 @@ module _ (laws : StreamLaws) (rooms : Rooms) (es : List PlainEntry) (source : Li
   pub rests : (pieces : List (List ℕ)) (feed : IsFeedOf source (operations_of rooms es) (concat pieces))
       → (is_at_rest (fed_pieces (new_mirror source) pieces) ≡ true) × ((fed_pieces (new_mirror source) pieces).serial ≡ last_serial 0 feed.texts)
   rests pieces feed =
-      let ends = rests_behind source (operations_of rooms es) (source_is source named) few (serials_from (empty_register rooms) 0 es) readable (concat pieces) feed in
+      let ends = rests_behind source (operations_of rooms es) (source_is source are.named) few (serials_from (empty_register rooms) 0 es) readable (concat pieces) feed in
       let same = pieces_joined (new_mirror source) pieces in
       (ap is_at_rest same ∙ ends.0, ap (λ (m : PlainMirror). m.serial) same ∙ ends.1)
 

@@ -1,20 +1,17 @@
 //! A mirror that is fed the register's own stream holds the register's objects, proved as contracts of functions that do
 //! nothing.
-ghost use Rattle.std.specs.Prelude.{◌≡◌, ℕ, ◌++◌, true, List, length, map, take, IsTrue};
+ghost use Rattle.std.specs.Prelude.{◌≡◌, ℕ, ◌++◌, true, List, length, map, take};
 ghost use Rattle.std.specs.List.{concat};
 ghost use Rattle.reg_entry.specs.declared.rooms.Rooms.{Rooms};
 ghost use Rattle.reg_entry.specs.Entry.{PlainEntry};
-ghost use Rattle.reg_entry.specs.Rooms.{AreRooms};
 ghost use Rattle.reg_entry.specs.Objects.{objects_of};
 ghost use Rattle.reg_entry.specs.Operations.{operations_of};
 ghost use Rattle.reg_entry.specs.Register.{register_after};
-ghost use Rattle.reg_entry.specs.Next.{IsLegal};
-ghost use Rattle.rpsl_text.specs.Forms.{is_source};
 ghost use Rattle.mirror_core.specs.Mirror.{new_mirror, is_at_rest};
 ghost use Rattle.mirror_core.specs.Objects.{mirrored};
 ghost use Rattle.mirror_laws.specs.Feed.{IsFeedOf, last_serial, fed_pieces};
 ghost use Rattle.mirror_laws.specs.Follows.{Follows};
-ghost use Rattle.mirror_laws.specs.Forms.{HaveForms};
+ghost use Rattle.mirror_laws.specs.Forms.{HasRequestForms, ArePublished};
 
 use addr_text::{computes_spelled, reads_written, spells_one};
 use cidr_cover::laws::cuts_are_widest;
@@ -22,49 +19,31 @@ use op_feed::laws::reached_boards_number_operations;
 use reg_laws::board::boards_keep_last_operations;
 use reg_laws::objects::operations_lead_to_objects;
 use reg_laws::whole::{legal_entries_are_whole, next_entry_keeps_whole};
-use rpsl_text::laws::lines_are_read_alone;
+use reg_entry::Request;
+use rpsl_text::laws::{are_hosts, has_fields, lines_are_read_alone};
 
 /// Fed a front of a feed of the stream of a legal list of entries, in any pieces and with repeats, a mirror has no fault, and
 /// with its serial n it holds what playing the first n operations gives, each object as it is read. Where n is the serial of
-/// the last operation of the first entries, these are the objects of the register of these entries.
+/// the last operation of the first entries, these are the objects of the register of these entries. Fed the whole feed it is
+/// at rest, and has the greatest serial of the feed's texts, or 0 where there is none; where that is the serial of the last
+/// operation there is, it holds the objects of the register.
 pub fn mirrors_follow_feeds()
     ensures follows { (rooms : Rooms) (es : List PlainEntry) (source : List ℕ) (pieces : List (List ℕ)) (rest : List ℕ)
-        → AreRooms rooms → IsLegal rooms es → HaveForms es → IsTrue (is_source source)
-        → IsFeedOf source (operations_of rooms es) (concat pieces ++ rest)
+        → ArePublished rooms es source → IsFeedOf source (operations_of rooms es) (concat pieces ++ rest)
         → Follows source (operations_of rooms es) (fed_pieces (new_mirror source) pieces) }
     ensures objects { (rooms : Rooms) (es : List PlainEntry) (source : List ℕ) (pieces : List (List ℕ)) (rest : List ℕ) (k : ℕ)
-        → AreRooms rooms → IsLegal rooms es → HaveForms es → IsTrue (is_source source)
-        → IsFeedOf source (operations_of rooms es) (concat pieces ++ rest)
+        → ArePublished rooms es source → IsFeedOf source (operations_of rooms es) (concat pieces ++ rest)
         → (fed_pieces (new_mirror source) pieces).serial ≡ length (operations_of rooms (take k es))
         → (fed_pieces (new_mirror source) pieces).objects
         ≡ map (mirrored source) (objects_of (register_after rooms (take k es))) }
-{
-    computes_spelled();
-    reads_written();
-    spells_one();
-    cuts_are_widest();
-    reached_boards_number_operations();
-    boards_keep_last_operations();
-    operations_lead_to_objects();
-    legal_entries_are_whole();
-    next_entry_keeps_whole();
-    lines_are_read_alone();
-}
-
-/// Fed all of such a feed a mirror is at rest, and has the greatest serial of its texts, or 0 where there is none. Where that
-/// is the serial of the last operation there is, it holds the objects of the register.
-pub fn mirrors_rest_behind_feeds()
-    ensures rest { (rooms : Rooms) (es : List PlainEntry) (source : List ℕ) (pieces : List (List ℕ))
-        → AreRooms rooms → IsLegal rooms es → HaveForms es → IsTrue (is_source source)
-        → IsFeedOf source (operations_of rooms es) (concat pieces)
+    ensures rests { (rooms : Rooms) (es : List PlainEntry) (source : List ℕ) (pieces : List (List ℕ))
+        → ArePublished rooms es source → IsFeedOf source (operations_of rooms es) (concat pieces)
         → is_at_rest (fed_pieces (new_mirror source) pieces) ≡ true }
     ensures serial { (rooms : Rooms) (es : List PlainEntry) (source : List ℕ) (pieces : List (List ℕ))
-        → AreRooms rooms → IsLegal rooms es → HaveForms es → IsTrue (is_source source)
-        → (feed : IsFeedOf source (operations_of rooms es) (concat pieces))
+        → ArePublished rooms es source → (feed : IsFeedOf source (operations_of rooms es) (concat pieces))
         → (fed_pieces (new_mirror source) pieces).serial ≡ last_serial 0 feed.texts }
-    ensures objects { (rooms : Rooms) (es : List PlainEntry) (source : List ℕ) (pieces : List (List ℕ))
-        → AreRooms rooms → IsLegal rooms es → HaveForms es → IsTrue (is_source source)
-        → (feed : IsFeedOf source (operations_of rooms es) (concat pieces))
+    ensures all_objects { (rooms : Rooms) (es : List PlainEntry) (source : List ℕ) (pieces : List (List ℕ))
+        → ArePublished rooms es source → (feed : IsFeedOf source (operations_of rooms es) (concat pieces))
         → last_serial 0 feed.texts ≡ length (operations_of rooms es)
         → (fed_pieces (new_mirror source) pieces).objects ≡ map (mirrored source) (objects_of (register_after rooms es)) }
 {
@@ -78,4 +57,15 @@ pub fn mirrors_rest_behind_feeds()
     legal_entries_are_whole();
     next_entry_keeps_whole();
     lines_are_read_alone();
+}
+
+/// Tells callers that what the request brings is of its forms, as the types keep them.
+pub fn has_request_forms(request: &Request)
+    ensures { HasRequestForms request.now }
+{
+    match request {
+        Request::AddHolder { holder } | Request::EditHolder { holder } => has_fields(holder),
+        Request::SetReverse { servers, .. } => are_hosts(servers.hosts()),
+        _ => {}
+    }
 }

@@ -23,7 +23,8 @@ pub fn lines_are_read_alone()
         → AllByRecursion IsReadAlone (attributes_of o source) }
 {}
 
-fn has_fields(holder: &Holder)
+/// Tells callers that the holder's fields are of their forms, as their types keep them.
+pub fn has_fields(holder: &Holder)
     ensures { HasFields holder.now }
 {
     let _ = holder.handle.bytes();
@@ -40,7 +41,8 @@ fn has_handle(handle: &Option<Handle>)
     }
 }
 
-fn are_hosts(hosts: &[Host])
+/// Tells callers that the hosts are of their form, as their type keeps it.
+pub fn are_hosts(hosts: &[Host])
     ensures { All (λ host. IsTrue (is_host host)) hosts.now }
 {
     for host in hosts {

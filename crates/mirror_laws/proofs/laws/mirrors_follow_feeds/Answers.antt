@@ -1,6 +1,6 @@
 use Rattle.std.proofs.Common.{[]}
 use Rattle.mirror_laws.proofs.NumberTexts.{NumberLaws}
-use Rattle.mirror_laws.proofs.Legal.{StreamLaws, follows, has_objects}
+use Rattle.mirror_laws.proofs.Legal.{StreamLaws, follows, has_objects, rests, has_all}
 use Rattle.mirror_laws.proofs.laws.mirrors_follow_feeds.Goals as goal
 
 pub returns : goal.returns
@@ -21,6 +21,9 @@ returns c =
       objects = c.operations_lead_to_objects.ensures.list;
     } in
     record {
-      follows = λ rooms es source pieces rest are_rooms legal forms named feed. follows laws rooms es source are_rooms legal forms named pieces rest feed;
-      objects = λ rooms es source pieces rest k are_rooms legal forms named feed serial. has_objects laws rooms es source are_rooms legal forms named pieces rest k feed serial;
+      follows = λ rooms es source pieces rest are feed. follows laws rooms es source are pieces rest feed;
+      objects = λ rooms es source pieces rest k are feed serial. has_objects laws rooms es source are pieces rest k feed serial;
+      rests = λ rooms es source pieces are feed. (rests laws rooms es source are pieces feed).0;
+      serial = λ rooms es source pieces are feed. (rests laws rooms es source are pieces feed).1;
+      all_objects = λ rooms es source pieces are feed last. has_all laws rooms es source are pieces feed last;
     }
