@@ -15,3 +15,4 @@ pub mod CutKeys
 pub mod Readable
 pub mod Published
 pub mod Legal
+pub mod Made

@@ -1,15 +1,17 @@
 //! A mirror that is fed the register's own stream holds the register's objects, proved as contracts of functions that do
 //! nothing.
-ghost use Rattle.std.specs.Prelude.{◌≡◌, ℕ, ◌++◌, true, List, length, map, take};
+ghost use Rattle.std.specs.Prelude.{◌≡◌, ℕ, ◌≤◌, ◌++◌, true, List, [], Option, length, map, take};
 ghost use Rattle.std.specs.List.{concat};
 ghost use Rattle.reg_entry.specs.declared.rooms.Rooms.{Rooms};
 ghost use Rattle.reg_entry.specs.Entry.{PlainEntry};
+ghost use Rattle.reg_entry.specs.Op.{PlainOp};
 ghost use Rattle.reg_entry.specs.Objects.{objects_of};
 ghost use Rattle.reg_entry.specs.Operations.{operations_of};
 ghost use Rattle.reg_entry.specs.Register.{register_after};
+ghost use Rattle.nrtm_stream.specs.Stream.{stream_text};
 ghost use Rattle.mirror_core.specs.Mirror.{new_mirror, is_at_rest};
 ghost use Rattle.mirror_core.specs.Objects.{mirrored};
-ghost use Rattle.mirror_laws.specs.Feed.{IsFeedOf, last_serial, fed_pieces};
+ghost use Rattle.mirror_laws.specs.Feed.{IsFeedPlan, last_serial, feed_of, IsFeedOf, fed_pieces};
 ghost use Rattle.mirror_laws.specs.Follows.{Follows};
 ghost use Rattle.mirror_laws.specs.Forms.{HasRequestForms, ArePublished};
 
@@ -58,6 +60,19 @@ pub fn mirrors_follow_feeds()
     next_entry_keeps_whole();
     lines_are_read_alone();
 }
+
+/// No bytes are a feed, and so are those of a feed with more texts behind them whose plan goes on with its own. The stream of
+/// all operations is a feed, and a feed stays one when there are more operations.
+pub fn texts_make_feeds()
+    ensures nothing { (source : List ℕ) (ops : List PlainOp) → IsFeedOf source ops [] }
+    ensures more { (source : List ℕ) (ops : List PlainOp) (bytes : List ℕ) (feed : IsFeedOf source ops bytes)
+        (texts : List (Option (ℕ × ℕ))) → IsFeedPlan (length ops) (last_serial 0 feed.texts) texts
+        → IsFeedOf source ops (bytes ++ feed_of source ops texts) }
+    ensures whole { (source : List ℕ) (ops : List PlainOp) → 1 ≤ length ops
+        → IsFeedOf source ops (stream_text source 1 (length ops) ops) }
+    ensures grows { (source : List ℕ) (ops more : List PlainOp) (bytes : List ℕ) → IsFeedOf source ops bytes
+        → IsFeedOf source (ops ++ more) bytes }
+{}
 
 /// Tells callers that what the request brings is of its forms, as the types keep them.
 pub fn has_request_forms(request: &Request)
