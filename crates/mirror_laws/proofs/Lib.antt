@@ -16,3 +16,4 @@ pub mod Readable
 pub mod Published
 pub mod Legal
 pub mod Made
+pub mod Answered

@@ -1,6 +1,6 @@
 //! A mirror that is fed the register's own stream holds the register's objects, proved as contracts of functions that do
 //! nothing.
-ghost use Rattle.std.specs.Prelude.{◌≡◌, ℕ, ◌≤◌, ◌++◌, true, List, [], Option, length, map, take};
+ghost use Rattle.std.specs.Prelude.{◌≡◌, ℕ, ◌≤◌, ◌++◌, true, List, [], Option, Result, length, map, take};
 ghost use Rattle.std.specs.List.{concat};
 ghost use Rattle.reg_entry.specs.declared.rooms.Rooms.{Rooms};
 ghost use Rattle.reg_entry.specs.Entry.{PlainEntry};
@@ -9,10 +9,12 @@ ghost use Rattle.reg_entry.specs.Objects.{objects_of};
 ghost use Rattle.reg_entry.specs.Operations.{operations_of};
 ghost use Rattle.reg_entry.specs.Register.{register_after};
 ghost use Rattle.nrtm_stream.specs.Stream.{stream_text};
-ghost use Rattle.mirror_core.specs.Mirror.{new_mirror, is_at_rest};
+ghost use Rattle.mirror_core.specs.declared.fault.FeedFault.{FeedFault as TheFault};
+ghost use Rattle.mirror_core.specs.Fed.{IsFed};
+ghost use Rattle.mirror_core.specs.Mirror.{PlainMirror, new_mirror, is_at_rest};
 ghost use Rattle.mirror_core.specs.Objects.{mirrored};
 ghost use Rattle.mirror_laws.specs.Feed.{IsFeedPlan, last_serial, feed_of, IsFeedOf, fed_pieces};
-ghost use Rattle.mirror_laws.specs.Follows.{Follows};
+ghost use Rattle.mirror_laws.specs.Follows.{Follows, HoldsOperations, IsFedOrNoMemory};
 ghost use Rattle.mirror_laws.specs.Forms.{HasRequestForms, ArePublished};
 
 use addr_text::{computes_spelled, reads_written, spells_one};
@@ -59,6 +61,22 @@ pub fn mirrors_follow_feeds()
     legal_entries_are_whole();
     next_entry_keeps_whole();
     lines_are_read_alone();
+}
+
+/// On such a feed a call that feeds more bytes answers no fault but want of memory, and whatever it answers the mirror holds
+/// what playing its operations gives.
+pub fn feeding_has_no_fault()
+    ensures answer { (rooms : Rooms) (es : List PlainEntry) (source : List ℕ) (pieces : List (List ℕ)) (bytes rest : List ℕ)
+        (new : PlainMirror) (answer : Result (Unit {0}) TheFault) → ArePublished rooms es source
+        → IsFeedOf source (operations_of rooms es) (concat pieces ++ (bytes ++ rest))
+        → IsFed (fed_pieces (new_mirror source) pieces) bytes new answer → IsFedOrNoMemory answer }
+    ensures holds { (rooms : Rooms) (es : List PlainEntry) (source : List ℕ) (pieces : List (List ℕ)) (bytes rest : List ℕ)
+        (new : PlainMirror) (answer : Result (Unit {0}) TheFault) → ArePublished rooms es source
+        → IsFeedOf source (operations_of rooms es) (concat pieces ++ (bytes ++ rest))
+        → IsFed (fed_pieces (new_mirror source) pieces) bytes new answer
+        → HoldsOperations source (operations_of rooms es) new }
+{
+    mirrors_follow_feeds();
 }
 
 /// No bytes are a feed, and so are those of a feed with more texts behind them whose plan goes on with its own. The stream of
