@@ -99,7 +99,6 @@ module _ (laws : StreamLaws) (rooms : Rooms) (es : List PlainEntry) (source : Li
       → (fed_pieces (new_mirror source) pieces).serial ≡ length (operations_of rooms (take k es))
       → (fed_pieces (new_mirror source) pieces).objects ≡ map (mirrored source) (objects_of (register_after rooms (take k es)))
   has_objects pieces rest k feed serial =
-      let m : PlainMirror = fed_pieces (new_mirror source) pieces in
       let firsts : List PlainEntry = take k es in
       let whole : es ≡ firsts ++ drop k es = sym (take-append-drop k es) in
       let their_legal : IsLegal rooms firsts = legal_front (empty_register rooms) firsts (drop k es) (subst (IsLegal rooms) whole are.legal) in
@@ -123,7 +122,6 @@ module _ (laws : StreamLaws) (rooms : Rooms) (es : List PlainEntry) (source : Li
   pub has_all : (pieces : List (List ℕ)) (feed : IsFeedOf source (operations_of rooms es) (concat pieces)) → last_serial 0 feed.texts ≡ length (operations_of rooms es)
       → (fed_pieces (new_mirror source) pieces).objects ≡ map (mirrored source) (objects_of (register_after rooms es))
   has_all pieces feed last =
-      let m : PlainMirror = fed_pieces (new_mirror source) pieces in
       let all : take (length es) es ≡ es = take_all (length es) es (omega arith) in
       let unended : IsFeedOf source (operations_of rooms es) (concat pieces ++ []) = subst (IsFeedOf source (operations_of rooms es)) (sym (append-nil (concat pieces))) feed in
       has_objects pieces [] (length es) unended ((rests pieces feed).1 ∙ last ∙ ap (λ (fs : List PlainEntry). length (operations_of rooms fs)) (sym all))

@@ -20,10 +20,10 @@ ghost use Rattle.mirror_laws.specs.Forms.{HasRequestForms, ArePublished};
 use addr_text::{computes_spelled, reads_written, spells_one};
 use cidr_cover::laws::cuts_are_widest;
 use op_feed::laws::reached_boards_number_operations;
+use reg_entry::Request;
 use reg_laws::board::boards_keep_last_operations;
 use reg_laws::objects::operations_lead_to_objects;
 use reg_laws::whole::{legal_entries_are_whole, next_entry_keeps_whole};
-use reg_entry::Request;
 use rpsl_text::laws::{are_hosts, has_fields, lines_are_read_alone};
 
 /// Fed a front of a feed of the stream of a legal list of entries, in any pieces and with repeats, a mirror has no fault, and

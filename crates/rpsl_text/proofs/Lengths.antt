@@ -1,7 +1,6 @@
 -- How long the values of attributes are.
 use Rattle.std.proofs.Common.{◌≡◌, ℕ, ◌+◌, ◌*◌, ◌/◌, ◌^◌, ◌%◌, ◌<◌, ◌≤◌, Bool, true, ◌&&◌, ◌==◌, nat_le, List, [], ◌∷◌, ◌++◌, length, take, drop, flat_map, map, filter, codes, decimal, arith, length-append, length-drop, length-take, ltb}
 use Rattle.std.proofs.lemmas.Bool.{and_parts, eqb-true, leb-true, cond_both}
-use Rattle.std.proofs.lemmas.Bool.Decides.{nat_tests}
 use Rattle.std.proofs.lemmas.Fmt.{length-decimal-le}
 use Rattle.std.specs.List.{list_all}
 use Rattle.std.specs.Net.Text.{dotted_text, hex, groups_text, longest_zero_run, compressed_text, hex_groups_text}

@@ -1,5 +1,5 @@
 -- An attribute whose line is read by itself as the attribute.
-use Rattle.std.specs.Prelude.{◌≡◌, ℕ, ◌≤◌, true, List, ◌∷◌, ◌++◌, length, slice_index, All, Option, None, Some}
+use Rattle.std.specs.Prelude.{◌≡◌, ℕ, ◌≤◌, true, List, ◌∷◌, ◌++◌, length, slice_index, All, None, Some}
 use Rattle.std.specs.Option.{option_map}
 use Rattle.rpsl_text.specs.Lines.{is_name_byte, continuation_of, name_and_rest, attribute_of}
 use Rattle.rpsl_text.specs.Plain.{plain_attribute}
