@@ -6,3 +6,4 @@ pub mod Words
 pub mod Reading
 pub mod Plain
 pub mod Forms
+pub mod Alone

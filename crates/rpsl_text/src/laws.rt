@@ -1,10 +1,11 @@
-//! What was written is read again, proved as the contract of a function that does nothing.
+//! What was written is read again, proved as contracts of functions that do nothing.
 ghost use Rattle.std.specs.Prelude.{◌≡◌, ℕ, List, Ok, IsTrue};
-ghost use Rattle.std.specs.List.{All};
+ghost use Rattle.std.specs.List.{All, AllByRecursion};
 ghost use Rattle.reg_entry.specs.declared.object.Object.{Object as TheObject};
 ghost use Rattle.reg_entry.specs.Host.{is_host};
 ghost use Rattle.rpsl_text.specs.Forms.{HasFields, HasHandle, HasForms, is_source};
-ghost use Rattle.rpsl_text.specs.Object.{object_text};
+ghost use Rattle.rpsl_text.specs.Alone.{IsReadAlone};
+ghost use Rattle.rpsl_text.specs.Object.{attributes_of, object_text};
 ghost use Rattle.rpsl_text.specs.Plain.{plain_attributes};
 ghost use Rattle.rpsl_text.specs.Reading.{read_text};
 
@@ -16,7 +17,14 @@ pub fn written_is_read()
         → read_text (object_text o source) ≡ Ok (plain_attributes o source) }
 {}
 
-fn has_fields(holder: &Holder)
+/// Each line of the text of an object is read by itself as its attribute, and is short.
+pub fn lines_are_read_alone()
+    ensures { (o : TheObject) (source : List ℕ) → HasForms o → IsTrue (is_source source)
+        → AllByRecursion IsReadAlone (attributes_of o source) }
+{}
+
+/// Tells callers that the holder's fields are of their forms, as their types keep them.
+pub fn has_fields(holder: &Holder)
     ensures { HasFields holder.now }
 {
     let _ = holder.handle.bytes();
@@ -33,7 +41,8 @@ fn has_handle(handle: &Option<Handle>)
     }
 }
 
-fn are_hosts(hosts: &[Host])
+/// Tells callers that the hosts are of their form, as their type keeps it.
+pub fn are_hosts(hosts: &[Host])
     ensures { All (λ host. IsTrue (is_host host)) hosts.now }
 {
     for host in hosts {
