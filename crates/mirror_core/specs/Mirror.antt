@@ -1,9 +1,10 @@
 -- A mirror as contracts see it.
-use Rattle.std.specs.Prelude.{ℕ, ◌+◌, ◌-◌, ◌^◌, min, Bool, ◌&&◌, ◌==◌, List, [], Option, None, Some, length}
+use Rattle.std.specs.Prelude.{ℕ, ◌+◌, ◌-◌, ◌^◌, min, Bool, if◌then◌else◌, ◌&&◌, ◌==◌, List, [], Option, None, Some, length}
 use Rattle.std.specs.Option.{is_none}
 use Rattle.reg_entry.specs.declared.object.Key.{Key}
 use Rattle.reg_entry.specs.declared.object.Act.{Act}
 use Rattle.mirror_core.specs.declared.fault.FeedFault.{FeedFault}
+use Rattle.mirror_core.specs.declared.fault.FeedFault.TheVariants.{Spelling}
 
 -- an object that is being read: the act that it is for, its attributes so far, how many lines it has so far, the place of its
 -- first line, and that of the line on which its last attribute begins
@@ -43,6 +44,13 @@ is_at_rest m = is_none m.fault && is_none m.stream && (length m.line == 0)
 -- so many bytes behind a place
 abbrev pub later : ℕ → ℕ → ℕ
 later place count = min (place + count) (2 ^ 64 - 1)
+
+-- what is wrong where nothing more is fed: the fault, or that the mirror isn't at rest
+abbrev pub end_fault : PlainMirror → Option FeedFault
+end_fault m = elim m.fault [
+  | Some fault ↦ Some fault
+  | None ↦ if is_at_rest m then None else Some (Spelling (later m.place (length m.line)))
+]
 
 -- the mirror after a fault, which keeps its objects and its serial; so many bytes were fed since its place
 abbrev pub broken : PlainMirror → ℕ → FeedFault → PlainMirror

@@ -2,7 +2,7 @@
 ghost use Rattle.std.specs.Prelude.{◌≡◌, ◌≢◌, ◌≤◌, ◌+◌, ◌++◌, ◌∷◌, [], ℕ, List, length, false, true, None, Some, All, IfOk, IsTrue};
 ghost use Rattle.arrayvec.specs.ArrayVec.{array_vec_len};
 ghost use Rattle.rpsl_text.specs.Forms.{is_source};
-ghost use Rattle.mirror_core.specs.Mirror.{new_mirror, is_at_rest, passed, broken};
+ghost use Rattle.mirror_core.specs.Mirror.{new_mirror, is_at_rest, end_fault, passed, broken};
 ghost use Rattle.mirror_core.specs.Line.{is_too_long, long_fault};
 ghost use Rattle.mirror_core.specs.Fed.{IsFed, IsStill, holding};
 
@@ -212,6 +212,20 @@ impl Mirror {
         ensures { result ≡ self.now.fault }
     {
         self.fault
+    }
+
+    /// What is wrong where nothing more is fed: the fault, or that the mirror isn't at rest, at the place of the feed's end.
+    pub fn end_fault(&self) -> Option<FeedFault>
+        ensures { result ≡ end_fault self.now }
+    {
+        if self.fault.is_some() {
+            return self.fault;
+        }
+        if self.at_rest() {
+            return None;
+        }
+        let place = self.replica.place().saturating_add(self.line.len() as u64);
+        Some(FeedFault::Spelling { place })
     }
 
     pub fn objects(&self) -> &Objects

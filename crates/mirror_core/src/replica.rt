@@ -72,6 +72,12 @@ impl Replica {
         &self.objects
     }
 
+    pub(crate) fn place(&self) -> u64
+        ensures { result ≡ self.now.place }
+    {
+        self.place
+    }
+
     pub(crate) fn serial(&self) -> u64
         ensures { result ≡ self.now.serial }
     {

@@ -1,8 +1,11 @@
 //! What lines ask, and what streams have, proved as the contracts of functions that do nothing.
 ghost use Rattle.std.specs.Prelude.{◌≡◌, ◌↔◌, ℕ, ◌+◌, ◌-◌, List, take, drop, Some, IsTrue};
 ghost use Rattle.reg_entry.specs.Entry.{PlainEntry};
+ghost use Rattle.reg_entry.specs.Name.{is_name};
 ghost use Rattle.reg_entry.specs.Operations.{PlainBoard, operations_of};
 ghost use Rattle.op_feed.specs.ReachedBoard.{IsBoardOf};
+ghost use Rattle.rpsl_text.specs.Forms.{is_source};
+ghost use Rattle.nrtm_stream.specs.Stream.{capitals};
 ghost use Rattle.nrtm_stream.specs.Query.{PlainQuery, SpellsQuery};
 ghost use Rattle.nrtm_stream.specs.Ask.{query_of, ask_of, IsAskedOf};
 ghost use Rattle.nrtm_stream.specs.Answer.{are_kept, operations_between};
@@ -25,3 +28,8 @@ pub fn streams_have_all_operations()
     boards_keep_last_operations();
     reached_boards_number_operations();
 }
+
+/// The name of a registry in capitals is a source's.
+pub fn names_are_sources()
+    ensures { (name : List ℕ) → IsTrue (is_name name) → IsTrue (is_source (capitals name)) }
+{}

@@ -6,6 +6,7 @@ pub mod laws;
 mod nrtm_lens;
 mod number;
 mod query;
+mod source;
 mod stream;
 #[cfg(test)]
 mod tests;
@@ -13,3 +14,4 @@ mod tests;
 pub use ask::{Ask, AskFault, error_line};
 pub use nrtm_lens::NrtmLens;
 pub use query::read_ask;
+pub use source::source_of;

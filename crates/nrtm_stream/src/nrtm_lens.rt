@@ -1,10 +1,9 @@
 ghost use Rattle.std.specs.Prelude.{◌≡◌, IfOk};
-ghost use Rattle.nrtm_stream.specs.Stream.{capitals};
 ghost use Rattle.nrtm_stream.specs.Answer.{asks_for_newer, are_kept, between_text, stream_answer, nrtm_answer};
 
 use crate::Ask;
+use crate::source::source_of;
 use crate::stream::{append_not_kept, append_stream};
-use arrayvec::ArrayVec;
 use board::{Answer, Board, Body, Lens, Media};
 use reg_entry::Name;
 use std::alloc::{AllocError, Global};
@@ -15,17 +14,6 @@ use std::alloc::{AllocError, Global};
 pub struct NrtmLens {
     pub ask: Ask,
     pub registry: Name,
-}
-
-/// The source of what the registry publishes.
-fn capitals(registry: &Name) -> ArrayVec<u8, 24>
-    ensures { result.items ≡ capitals registry.now }
-{
-    let mut source = ArrayVec::new();
-    for b in registry.bytes() {
-        source.push(b.to_ascii_uppercase());
-    }
-    source
 }
 
 /// Whether the first is at most the last, and both are kept.
@@ -81,7 +69,7 @@ impl Lens for NrtmLens {
     ghost answers = { λ lens board answer. answer ≡ nrtm_answer board lens.ask lens.registry };
 
     fn read(&self, alloc: Global, board: &Board) -> Result<Answer, AllocError> {
-        let source = capitals(&self.registry);
+        let source = source_of(&self.registry);
         Ok(Answer {
             status: 200,
             media: Media::Plain,
