@@ -45,12 +45,14 @@ is_at_rest m = is_none m.fault && is_none m.stream && (length m.line == 0)
 abbrev pub later : ℕ → ℕ → ℕ
 later place count = min (place + count) (2 ^ 64 - 1)
 
+-- a fault stays; without one a mirror that isn't at rest has a line out of place at the end
+abbrev pub fault_at_end : Option FeedFault → Bool → ℕ → Option FeedFault
+fault_at_end (Some fault) at_rest end = Some fault
+fault_at_end None at_rest end = if at_rest then None else Some (Spelling end)
+
 -- what is wrong where nothing more is fed: the fault, or that the mirror isn't at rest
 abbrev pub end_fault : PlainMirror → Option FeedFault
-end_fault m = elim m.fault [
-  | Some fault ↦ Some fault
-  | None ↦ if is_at_rest m then None else Some (Spelling (later m.place (length m.line)))
-]
+end_fault m = fault_at_end m.fault (is_at_rest m) (later m.place (length m.line))
 
 -- the mirror after a fault, which keeps its objects and its serial; so many bytes were fed since its place
 abbrev pub broken : PlainMirror → ℕ → FeedFault → PlainMirror
