@@ -92,7 +92,7 @@ abbrev pub begun : PlainMirror → Act × ℕ → Option PlainStream → Result 
 begun m operation None = Err (Spelling m.place)
 begun m operation (Some s) =
     if (operation.1 == s.next) && nat_le operation.1 s.last then
-      Ok (in_stream m (Some (record { next = s.next; last = s.last; draft = Some (no_lines operation.0) })))
+    Ok (in_stream m (Some (record { next = s.next; last = s.last; draft = Some (no_lines operation.0) })))
     else Err (Spelling m.place)
 
 abbrev pub operation_line : PlainMirror → List (List ℕ) → Result PlainMirror FeedFault
