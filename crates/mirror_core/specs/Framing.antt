@@ -1,6 +1,6 @@
 -- The lines round the objects of a stream (NRTM version 3).
-use Rattle.std.specs.Prelude.{ℕ, ◌+◌, ◌-◌, ◌^◌, min, Bool, true, false, not, ◌&&◌, ◌||◌, ◌==◌, nat_lt, nat_le, if◌then◌else◌, List, [], ◌∷◌, take, codes, bytes_eq, Option, None, Some, Result, Ok, Err}
-use Rattle.std.specs.Option.{is_some, option_map, option_and_then}
+use Rattle.std.specs.Prelude.{ℕ, ◌+◌, ◌-◌, ◌^◌, min, Bool, true, false, not, ◌&&◌, ◌||◌, ◌==◌, nat_lt, nat_le, if◌then◌else◌, List, [], ◌∷◌, codes, bytes_eq, Option, None, Some, Result, Ok, Err}
+use Rattle.std.specs.Option.{is_some}
 use Rattle.addr_text.specs.Reading.{◌>>=◌, parted_at, decimal_up_to}
 use Rattle.reg_entry.specs.declared.object.Act.{Act}
 use Rattle.reg_entry.specs.declared.object.Act.TheVariants.{Add, Del}

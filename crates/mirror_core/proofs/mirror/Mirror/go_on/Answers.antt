@@ -1,4 +1,4 @@
-use Rattle.std.proofs.Common.{◌≡◌, ℕ, ◌+◌, true, false, List, ◌++◌, [], length, refl, sym, ap, ◌∙◌, subst, arith, append-nil, Err}
+use Rattle.std.proofs.Common.{◌≡◌, ℕ, ◌+◌, true, false, List, ◌++◌, [], length, sym, ap, ◌∙◌, subst, arith, append-nil, Err}
 use Rattle.mirror_core.specs.Mirror.{PlainMirror, broken}
 use Rattle.mirror_core.specs.Line.{is_too_long}
 use Rattle.mirror_core.specs.Fed.{IsFed}

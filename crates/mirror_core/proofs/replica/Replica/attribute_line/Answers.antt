@@ -1,9 +1,9 @@
-use Rattle.std.proofs.Common.{◌≡◌, ℕ, ◌+◌, ◌<◌, false, nat_le, Ok, Err, refl, sym, ap, ◌∙◌, subst, arith, rules}
+use Rattle.std.proofs.Common.{◌≡◌, ℕ, ◌+◌, ◌<◌, false, nat_le, Ok, Err, refl, sym, ap, ◌∙◌, subst, arith}
 use Rattle.std.proofs.lemmas.Bool.Decides.{nat_tests}
 use Rattle.mirror_core.specs.declared.fault.FeedFault.TheVariants.{ClassOut}
 use Rattle.mirror_core.specs.Mirror.{PlainDraft}
 use Rattle.mirror_core.specs.Draft.{most_lines, drafted, attribute_line}
-use Rattle.mirror_core.specs.Replica.{PlainReplica, IsKept, standing, standing_in, stream_with}
+use Rattle.mirror_core.specs.Replica.{PlainReplica, standing_in, stream_with}
 use Rattle.mirror_core.proofs.Attributes.{class_out, class_in}
 use Rattle.mirror_core.proofs.replica.Replica.attribute_line.Goals as goal
 
