@@ -1,16 +1,13 @@
 -- What feeding does, byte by byte, and so what it does with stretches of bytes.
-use Rattle.std.proofs.Common.{◌≡◌, ◌≢◌, ◌⊎◌, ℕ, ◌+◌, ◌-◌, ◌^◌, ◌≤◌, min, Bool, true, false, cond, ◌==◌, nat_lt, List, [], ◌∷◌, ◌++◌, length, fold, All, Option, None, Some, Result, Ok, Err, IfSome, inl, inr, refl, sym, ap, ap₂, ◌∙◌, subst, arith, append_assoc, append-nil}
-use Rattle.std.proofs.lemmas.Bool.{cond-true, cond-false}
-use Rattle.std.proofs.lemmas.Bool.Decides.{nat_tests}
-use Rattle.std.proofs.lemmas.List.Elements.{All-head, All-tail}
+use Rattle.std.proofs.Common.{◌≡◌, ℕ, ◌+◌, ◌-◌, ◌^◌, ◌≤◌, List, [], ◌∷◌, ◌++◌, length, Option, None, Some, Result, Ok, Err, IfSome, inl, inr, refl, sym, ap, ◌∙◌, subst, arith, append_assoc}
 use Rattle.std.specs.Str.Lines.{strip_carriage_return}
 use Rattle.mirror_core.specs.declared.fault.FeedFault.{FeedFault}
 use Rattle.mirror_core.specs.declared.fault.FeedFault.TheVariants.{Spelling, Gap, ForeignSource, ClassOut, Announced, NoMemory}
 use Rattle.mirror_core.specs.Mirror.{PlainMirror, PlainStream, later, broken, passed}
-use Rattle.mirror_core.specs.Line.{after_line, is_too_long, long_fault}
-use Rattle.mirror_core.specs.Feed.{at_line, behind_line, with_line_end, with_byte, after_byte, fed}
-use Rattle.mirror_core.specs.Replica.{PlainReplica, mirror_with, standing, IsFaultOf, IsBehind}
-use Rattle.mirror_core.specs.Fed.{IsFedWith, IsOutOfMemory, IsFed, IsStill, holding}
+use Rattle.mirror_core.specs.Line.{after_line}
+use Rattle.mirror_core.specs.Feed.{behind_line, with_byte, after_byte, fed}
+use Rattle.mirror_core.specs.Replica.{PlainReplica, mirror_with, standing, IsBehind}
+use Rattle.mirror_core.specs.Fed.{IsFedWith, IsOutOfMemory, IsFed, IsStill}
 
 -- ---- pieces
 

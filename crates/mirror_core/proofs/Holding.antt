@@ -1,5 +1,5 @@
 -- A line that grows: it is held, or it is too long from its first byte on that makes it so.
-use Rattle.std.proofs.Common.{◌≡◌, ◌≢◌, ℕ, ◌+◌, ◌-◌, ◌≤◌, Bool, true, false, cond, if◌then◌else◌, ◌==◌, nat_lt, List, [], ◌∷◌, ◌++◌, length, take, slice_index, All, Option, None, Some, Result, Ok, Err, inl, inr, refl, sym, ap, ap₂, ◌∙◌, subst, arith, append_assoc, append-nil, length-append, ne_eqb, true≢false}
+use Rattle.std.proofs.Common.{◌≡◌, ◌≢◌, ℕ, ◌+◌, ◌-◌, ◌≤◌, Bool, true, false, if◌then◌else◌, ◌==◌, List, [], ◌∷◌, ◌++◌, length, take, slice_index, All, None, Some, Result, Err, inl, inr, refl, sym, ap, ap₂, ◌∙◌, subst, arith, append_assoc, append-nil, length-append, ne_eqb, true≢false}
 use Rattle.std.proofs.lemmas.Bool.{cases_Bool, cond-true, cond-false}
 use Rattle.std.proofs.lemmas.Bool.Decides.{nat_tests}
 use Rattle.std.proofs.lemmas.List.{length-take-le}
@@ -7,12 +7,12 @@ use Rattle.std.proofs.lemmas.List.Elements.{All-head, All-tail}
 use Rattle.std.specs.Str.Lines.{strip_carriage_return}
 use Rattle.mirror_core.specs.declared.fault.FeedFault.{FeedFault}
 use Rattle.mirror_core.specs.declared.fault.FeedFault.TheVariants.{Spelling}
-use Rattle.mirror_core.specs.Mirror.{PlainMirror, PlainDraft, broken}
+use Rattle.mirror_core.specs.Mirror.{PlainMirror, broken}
 use Rattle.mirror_core.specs.Draft.{attribute_fault}
 use Rattle.mirror_core.specs.Line.{is_too_long, goes_on_with_value, draft_of, fault_or, long_fault}
 use Rattle.mirror_core.specs.Feed.{at_line, with_line_end, with_line_byte, after_byte, fed}
 use Rattle.mirror_core.specs.Fed.{IsFed, holding}
-use Rattle.mirror_core.proofs.Feeding.{fed_more, sound_byte, fed_stopped, broken_more, told, behind}
+use Rattle.mirror_core.proofs.Feeding.{sound_byte, fed_stopped, broken_more, told, behind}
 
 -- ---- too long
 

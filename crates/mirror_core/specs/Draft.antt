@@ -1,9 +1,9 @@
 -- The lines of an object in a stream, and what becomes of it when it is whole.
-use Rattle.std.specs.Prelude.{ℕ, ◌+◌, Bool, true, not, ◌&&◌, ◌==◌, nat_lt, nat_le, if◌then◌else◌, List, [], ◌∷◌, ◌++◌, codes, bytes_eq, fold, length, Option, None, Some, Result, Ok, Err}
-use Rattle.std.specs.Option.{is_none, is_some}
+use Rattle.std.specs.Prelude.{ℕ, ◌+◌, Bool, not, ◌&&◌, ◌==◌, nat_lt, nat_le, if◌then◌else◌, List, [], ◌∷◌, ◌++◌, codes, bytes_eq, Option, None, Some, Result, Ok, Err}
+use Rattle.std.specs.Option.{is_none}
 use Rattle.std.specs.List.{list_any}
 use Rattle.reg_entry.specs.declared.object.Key.{Key}
-use Rattle.rpsl_text.specs.Lines.{continuation_of, name_and_rest, attribute_of, is_blank}
+use Rattle.rpsl_text.specs.Lines.{continuation_of, name_and_rest, attribute_of}
 use Rattle.rpsl_text.specs.Reading.{gone_on}
 use Rattle.mirror_core.specs.declared.fault.FeedFault.{FeedFault}
 use Rattle.mirror_core.specs.declared.fault.FeedFault.TheVariants.{Spelling, ForeignSource, ClassOut}

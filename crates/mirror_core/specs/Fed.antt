@@ -1,5 +1,5 @@
 -- What is answered to a feed.
-use Rattle.std.specs.Prelude.{◌≡◌, ◌⊎◌, ℕ, ◌-◌, ◌^◌, ◌≤◌, Bool, false, List, [], ◌++◌, IfSome, Option, None, Some, Result, Ok, Err}
+use Rattle.std.specs.Prelude.{◌≡◌, ◌⊎◌, ℕ, ◌-◌, ◌^◌, ◌≤◌, false, List, [], ◌++◌, IfSome, Option, None, Some, Result, Ok, Err}
 use Rattle.mirror_core.specs.declared.fault.FeedFault.{FeedFault}
 use Rattle.mirror_core.specs.declared.fault.FeedFault.TheVariants.{Spelling, Gap, ForeignSource, ClassOut, Announced, NoMemory}
 use Rattle.mirror_core.specs.Mirror.{PlainMirror, broken}

@@ -1,5 +1,5 @@
 -- A mirror that is fed the change stream (NRTM version 3).
-use Rattle.std.specs.Prelude.{ℕ, ◌+◌, ◌==◌, if◌then◌else◌, List, [], ◌∷◌, ◌++◌, length, fold, Option, None, Some, Result, Ok, Err}
+use Rattle.std.specs.Prelude.{ℕ, ◌+◌, ◌==◌, if◌then◌else◌, List, [], ◌∷◌, ◌++◌, length, fold, None, Some, Result, Ok, Err}
 use Rattle.std.specs.Str.Lines.{strip_carriage_return}
 use Rattle.mirror_core.specs.declared.fault.FeedFault.{FeedFault}
 use Rattle.mirror_core.specs.Mirror.{PlainMirror, later, broken}

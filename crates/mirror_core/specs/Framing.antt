@@ -1,6 +1,6 @@
 -- The lines round the objects of a stream (NRTM version 3).
-use Rattle.std.specs.Prelude.{ℕ, ◌+◌, ◌-◌, ◌^◌, min, Bool, true, false, not, ◌&&◌, ◌||◌, ◌==◌, nat_lt, nat_le, if◌then◌else◌, List, [], ◌∷◌, take, codes, bytes_eq, Option, None, Some, Result, Ok, Err}
-use Rattle.std.specs.Option.{is_some, option_map, option_and_then}
+use Rattle.std.specs.Prelude.{ℕ, ◌+◌, ◌-◌, ◌^◌, min, Bool, true, false, not, ◌&&◌, ◌||◌, ◌==◌, nat_lt, nat_le, if◌then◌else◌, List, [], ◌∷◌, codes, bytes_eq, Option, None, Some, Result, Ok, Err}
+use Rattle.std.specs.Option.{is_some}
 use Rattle.addr_text.specs.Reading.{◌>>=◌, parted_at, decimal_up_to}
 use Rattle.reg_entry.specs.declared.object.Act.{Act}
 use Rattle.reg_entry.specs.declared.object.Act.TheVariants.{Add, Del}
@@ -92,7 +92,7 @@ abbrev pub begun : PlainMirror → Act × ℕ → Option PlainStream → Result 
 begun m operation None = Err (Spelling m.place)
 begun m operation (Some s) =
     if (operation.1 == s.next) && nat_le operation.1 s.last then
-      Ok (in_stream m (Some (record { next = s.next; last = s.last; draft = Some (no_lines operation.0) })))
+    Ok (in_stream m (Some (record { next = s.next; last = s.last; draft = Some (no_lines operation.0) })))
     else Err (Spelling m.place)
 
 abbrev pub operation_line : PlainMirror → List (List ℕ) → Result PlainMirror FeedFault

@@ -1,5 +1,5 @@
 -- What a mirror has between lines.
-use Rattle.std.specs.Prelude.{◌≡◌, ◌⊎◌, ℕ, ◌+◌, Bool, false, not, List, [], ◌∷◌, length, Option, None, Some, Result, Ok, Err}
+use Rattle.std.specs.Prelude.{◌≡◌, ◌⊎◌, ℕ, ◌+◌, Bool, false, not, List, [], length, Option, None, Some, Result, Ok, Err}
 use Rattle.std.specs.Str.Lines.{strip_carriage_return}
 use Rattle.rpsl_text.specs.Attributes.{last_of}
 use Rattle.reg_entry.specs.declared.object.Key.{Key}

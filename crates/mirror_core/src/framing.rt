@@ -86,7 +86,7 @@ impl Replica {
 
     /// The stream's next operation begins.
     fn begin_operation(&mut self, act: Act, serial: u64) -> Result<(), FeedFault>
-        ensures said { IsAfter (begun (standing self.old) (act, serial) self.old.stream) self.old self.new result}
+        ensures said { IsAfter (begun (standing self.old) (act, serial) self.old.stream) self.old self.new result }
         ensures place { self.new.place ≡ self.old.place }
     {
         match self.serials() {
@@ -102,7 +102,7 @@ impl Replica {
     }
 
     fn operation_line(&mut self, line: &[u8]) -> Result<(), FeedFault>
-        ensures said { IsAfter (operation_line (standing self.old) (words line.now)) self.old self.new result}
+        ensures said { IsAfter (operation_line (standing self.old) (words line.now)) self.old self.new result }
         ensures place { self.new.place ≡ self.old.place }
     {
         match operation_of(line) {
@@ -135,7 +135,7 @@ impl Replica {
 
     /// A line outside an object.
     pub(crate) fn outside_line(&mut self, line: &[u8]) -> Result<(), FeedFault>
-        ensures said { IsAfter (outside_line (standing self.old) line.now) self.old self.new result}
+        ensures said { IsAfter (outside_line (standing self.old) line.now) self.old self.new result }
         ensures place { self.new.place ≡ self.old.place }
     {
         match line {

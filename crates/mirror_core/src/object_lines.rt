@@ -54,7 +54,7 @@ impl Replica {
     fn value_line(&mut self, serials: Serials, draft: Draft, line: &[u8]) -> Result<(), FeedFault>
         requires serials { serials.next ≤ serials.last }
         ensures said { let s = stream_with serials draft in (text : List ℕ) → continuation_of line.now ≡ Some text
-            → IsAfter (goes_on (standing_in self.old s) s draft text) self.old self.new result}
+            → IsAfter (goes_on (standing_in self.old s) s draft text) self.old self.new result }
         ensures place { self.new.place ≡ self.old.place }
     {
         let Draft {
@@ -83,10 +83,15 @@ impl Replica {
     }
 
     /// A line that begins an attribute.
-    fn attribute_line(&mut self, serials: Serials, draft: Draft, line: &[u8]) -> Result<(), FeedFault>
+    fn attribute_line(
+        &mut self,
+        serials: Serials,
+        draft: Draft,
+        line: &[u8],
+    ) -> Result<(), FeedFault>
         requires serials { serials.next ≤ serials.last }
         requires anew { continuation_of line.now ≡ None }
-        ensures said { let s = stream_with serials draft in IsAfter (attribute_line (standing_in self.old s) s draft line.now) self.old self.new result}
+        ensures said { let s = stream_with serials draft in IsAfter (attribute_line (standing_in self.old s) s draft line.now) self.old self.new result }
         ensures place { self.new.place ≡ self.old.place }
     {
         let Draft {
@@ -119,7 +124,7 @@ impl Replica {
 
     /// A `%` line can't stand in an operation.
     fn percent_inside(&mut self, line: &[u8]) -> Result<(), FeedFault>
-        ensures said { IsAfter (percent_inside (standing self.old) line.now) self.old self.new result}
+        ensures said { IsAfter (percent_inside (standing self.old) line.now) self.old self.new result }
         ensures place { self.new.place ≡ self.old.place }
     {
         self.percent_line(line)?;
@@ -127,10 +132,16 @@ impl Replica {
     }
 
     /// A line that doesn't go on with a value.
-    fn new_line(&mut self, serials: Serials, draft: Draft, first: u8, line: &[u8]) -> Result<(), FeedFault>
+    fn new_line(
+        &mut self,
+        serials: Serials,
+        draft: Draft,
+        first: u8,
+        line: &[u8],
+    ) -> Result<(), FeedFault>
         requires serials { serials.next ≤ serials.last }
         requires anew { continuation_of line.now ≡ None }
-        ensures said { let s = stream_with serials draft in IsAfter (new_line (standing_in self.old s) s draft first line.now) self.old self.new result}
+        ensures said { let s = stream_with serials draft in IsAfter (new_line (standing_in self.old s) s draft first line.now) self.old self.new result }
         ensures place { self.new.place ≡ self.old.place }
     {
         if let Some(fault) = draft.attribute_fault(self.source.as_slice()) {
@@ -149,7 +160,7 @@ impl Replica {
     /// The stream's next operation is applied, unless it was before.
     fn apply(&mut self, serials: Serials, draft: Draft, key: Key) -> Result<(), FeedFault>
         requires { serials.next ≤ serials.last }
-        ensures said { let s = stream_with serials draft in IsAfter (Ok (applied (standing_in self.old s) s draft key)) self.old self.new result}
+        ensures said { let s = stream_with serials draft in IsAfter (Ok (applied (standing_in self.old s) s draft key)) self.old self.new result }
         ensures place { self.new.place ≡ self.old.place }
     {
         self.stream = Some(Stream {
@@ -161,7 +172,9 @@ impl Replica {
         });
         if u128::from(self.serial) < serials.next {
             let Draft {
-                act, attributes, ..
+                act,
+                attributes,
+                ..
             } = draft;
             self.objects.operate(act, key, attributes)?;
             self.serial = serials.next as u64;
@@ -172,7 +185,7 @@ impl Replica {
     /// The empty line behind an object.
     fn whole_object(&mut self, serials: Serials, draft: Draft) -> Result<(), FeedFault>
         requires { serials.next ≤ serials.last }
-        ensures said { let s = stream_with serials draft in IsAfter (whole_object (standing_in self.old s) s draft (object_key draft.attributes)) self.old self.new result}
+        ensures said { let s = stream_with serials draft in IsAfter (whole_object (standing_in self.old s) s draft (object_key draft.attributes)) self.old self.new result }
         ensures place { self.new.place ≡ self.old.place }
     {
         match object_key(&draft.attributes) {
@@ -183,7 +196,7 @@ impl Replica {
 
     fn empty_line(&mut self, serials: Serials, draft: Draft) -> Result<(), FeedFault>
         requires { serials.next ≤ serials.last }
-        ensures said { let s = stream_with serials draft in IsAfter (empty_line (standing_in self.old s) s draft) self.old self.new result}
+        ensures said { let s = stream_with serials draft in IsAfter (empty_line (standing_in self.old s) s draft) self.old self.new result }
         ensures place { self.new.place ≡ self.old.place }
     {
         if draft.lines == 0 {
@@ -200,9 +213,14 @@ impl Replica {
     }
 
     /// A line behind an act.
-    pub(crate) fn object_line(&mut self, serials: Serials, draft: Draft, line: &[u8]) -> Result<(), FeedFault>
+    pub(crate) fn object_line(
+        &mut self,
+        serials: Serials,
+        draft: Draft,
+        line: &[u8],
+    ) -> Result<(), FeedFault>
         requires { serials.next ≤ serials.last }
-        ensures said { let s = stream_with serials draft in IsAfter (object_line (standing_in self.old s) s draft line.now) self.old self.new result}
+        ensures said { let s = stream_with serials draft in IsAfter (object_line (standing_in self.old s) s draft line.now) self.old self.new result }
         ensures place { self.new.place ≡ self.old.place }
     {
         let [first, ..] = line else {

@@ -115,7 +115,7 @@ impl Replica {
 
     /// What the line, without its end, says.
     fn take_line(&mut self, line: &[u8]) -> Result<(), FeedFault>
-        ensures said { IsAfter (after_line (standing self.old) line.now) self.old self.new result}
+        ensures said { IsAfter (after_line (standing self.old) line.now) self.old self.new result }
         ensures place { self.new.place ≡ self.old.place }
     {
         match self.stream.take() {
@@ -125,7 +125,7 @@ impl Replica {
     }
 
     fn stream_line(&mut self, stream: Stream, line: &[u8]) -> Result<(), FeedFault>
-        ensures said { IsAfter (stream_line (standing_in self.old stream) stream stream.draft line.now) self.old self.new result}
+        ensures said { IsAfter (stream_line (standing_in self.old stream) stream stream.draft line.now) self.old self.new result }
         ensures place { self.new.place ≡ self.old.place }
     {
         let Stream { serials, draft } = stream;

@@ -1,5 +1,4 @@
-use Rattle.std.proofs.Common.{◌≡◌, Bool, true, false, not, ◌&&◌, bytes_eq, refl, sym, ap, ◌∙◌}
-use Rattle.mirror_core.specs.Draft.{is_foreign}
+use Rattle.std.proofs.Common.{Bool, not, ◌&&◌, bytes_eq, sym, ap, ◌∙◌}
 use Rattle.mirror_core.proofs.Sources.{foreign, none_foreign}
 use Rattle.mirror_core.proofs.draft.ends_foreign.Goals as goal
 

@@ -1,5 +1,4 @@
-use Rattle.std.proofs.Common.{ℕ, List, ◌≡◌, ◌+◌, ◌*◌, ◌-◌, ◌^◌, ◌<◌, ◌≤◌, length, take, drop, arith, length-take, length-drop, get_or, ap, sym, subst, ◌∙◌}
-use Rattle.reverse_zone.specs.Zone.{label_bits}
+use Rattle.std.proofs.Common.{ℕ, List, ◌≡◌, ◌+◌, ◌*◌, ◌-◌, ◌^◌, ◌<◌, ◌≤◌, length, take, drop, arith, length-take, length-drop, get_or, sym, subst}
 use Rattle.mirror_core.proofs.Values.{value_bound, value_fits}
 use Rattle.mirror_core.proofs.names.+labels_value.Goals as goal
 

@@ -1,4 +1,4 @@
-use Rattle.std.proofs.Common.{ℕ, List, ◌≡◌, ◌*◌, ◌-◌, ◌^◌, ◌<◌, ◌≤◌, true, length, arith, ap, ap₂, ◌∙◌, subst, sym}
+use Rattle.std.proofs.Common.{ℕ, List, ◌≡◌, ◌*◌, ◌-◌, ◌^◌, ◌<◌, length, ap, ap₂, ◌∙◌, subst, sym}
 use Rattle.reverse_zone.specs.Zone.{label_bits}
 use Rattle.mirror_core.specs.Keys.{labels_value}
 use Rattle.mirror_core.proofs.Values.{block_read, cut_length, start_fits}

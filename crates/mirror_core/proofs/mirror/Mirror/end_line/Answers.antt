@@ -1,8 +1,7 @@
-use Rattle.std.proofs.Common.{◌≡◌, ℕ, ◌+◌, true, false, List, ◌++◌, [], ◌∷◌, length, refl, sym, ap, ◌∙◌, subst, arith, length-append}
+use Rattle.std.proofs.Common.{◌≡◌, ℕ, true, false, List, ◌++◌, [], ◌∷◌, length, refl, sym, ap, ◌∙◌, subst, arith, length-append}
 use Rattle.std.proofs.lemmas.Bool.{eqb-true}
 use Rattle.mirror_core.specs.Mirror.{PlainMirror}
 use Rattle.mirror_core.specs.Line.{is_too_long}
-use Rattle.mirror_core.specs.Fed.{IsFed}
 use Rattle.mirror_core.proofs.Holding.{stopped, ended}
 use Rattle.mirror_core.proofs.mirror.Mirror.end_line.Goals as goal
 

@@ -1,4 +1,4 @@
-use Rattle.std.proofs.Common.{◌≡◌, Some, ap, sym, ◌∙◌}
+use Rattle.std.proofs.Common.{ap, sym, ◌∙◌}
 use Rattle.mirror_core.specs.Mirror.{PlainMirror}
 use Rattle.mirror_core.proofs.Feeding.{still_stopped}
 use Rattle.mirror_core.proofs.mirror.Mirror.feed.Goals as goal

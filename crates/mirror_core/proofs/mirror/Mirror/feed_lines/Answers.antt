@@ -1,5 +1,3 @@
-use Rattle.std.proofs.Common.{◌≡◌, Err, Ok, subst, ap}
-use Rattle.mirror_core.specs.Fed.{IsFed}
 use Rattle.mirror_core.proofs.Feeding.{line_more, line_last, line_stops}
 use Rattle.mirror_core.proofs.mirror.Mirror.feed_lines.Goals as goal
 

@@ -1,4 +1,4 @@
-use Rattle.std.proofs.Common.{◌≡◌, ℕ, ◌+◌, true, false, List, ◌++◌, [], length, refl, sym, ap, ◌∙◌, subst, arith, append-nil, Err}
+use Rattle.std.proofs.Common.{◌≡◌, ℕ, ◌+◌, true, false, List, ◌++◌, [], length, sym, ap, ◌∙◌, subst, arith, append-nil, Err}
 use Rattle.mirror_core.specs.Mirror.{PlainMirror, broken}
 use Rattle.mirror_core.specs.Line.{is_too_long}
 use Rattle.mirror_core.specs.Fed.{IsFed}
@@ -14,7 +14,7 @@ returns-then-is_too_long c =
     let long : is_too_long (old.line ++ piece) ≡ true = sym (c.is_too_long.ensures old.line lens short) ∙ c.if-is_too_long.true in
     subst (λ (bytes : List ℕ). IsFed old bytes c.stop_long.new.self (Err c.stop_long.result)) (append-nil piece)
     (stopped old c.stop_long.new.self piece [] _ c.stop_long.result c.requires.fault c.requires.inside short long
-        (ap (λ (bytes : List ℕ). length old.line + length bytes) (sym (append-nil piece))) c.stop_long.ensures.fault (c.stop_long.ensures.stopped ∙ ap (λ (n : ℕ). broken old n c.stop_long.result) (omega arith)))
+    (ap (λ (bytes : List ℕ). length old.line + length bytes) (sym (append-nil piece))) c.stop_long.ensures.fault (c.stop_long.ensures.stopped ∙ ap (λ (n : ℕ). broken old n c.stop_long.result) (omega arith)))
 
 pub returns : goal.returns
 returns c =

@@ -1,9 +1,9 @@
-use Rattle.std.proofs.Common.{◌≡◌, ℕ, ◌+◌, ◌<◌, false, nat_le, Ok, Err, refl, sym, ap, ◌∙◌, subst, arith, rules}
+use Rattle.std.proofs.Common.{◌≡◌, ℕ, ◌+◌, ◌<◌, false, nat_le, Ok, Err, refl, sym, ap, ◌∙◌, subst, arith}
 use Rattle.std.proofs.lemmas.Bool.Decides.{nat_tests}
 use Rattle.mirror_core.specs.declared.fault.FeedFault.TheVariants.{ClassOut}
 use Rattle.mirror_core.specs.Mirror.{PlainDraft}
 use Rattle.mirror_core.specs.Draft.{most_lines, drafted, attribute_line}
-use Rattle.mirror_core.specs.Replica.{PlainReplica, IsKept, standing, standing_in, stream_with}
+use Rattle.mirror_core.specs.Replica.{PlainReplica, standing_in, stream_with}
 use Rattle.mirror_core.proofs.Attributes.{class_out, class_in}
 use Rattle.mirror_core.proofs.replica.Replica.attribute_line.Goals as goal
 
@@ -20,10 +20,11 @@ returns-then-is_out-clause-said c =
     let s = stream_with c.args.serials d in
     let here : attribute_line (standing_in r s) s d line ≡ Err (ClassOut mine.place) =
     class_out (standing_in r s) s d line (room given.lines c.if-lines-ge-MOST_LINES.false) c.in_ok-attributes.attributes c.requires.anew c.in_ok-attributes.ensures
-    (sym c.is_out.ensures ∙ c.if-is_out.true) in
-    (subst (λ (m : PlainReplica). attribute_line (standing_in m (stream_with c.args.serials c.args.draft)) (stream_with c.args.serials c.args.draft) c.args.draft line ≡ Err (ClassOut mine.place)) c.self.view_is
-    (subst (λ (e : PlainDraft). attribute_line (standing_in r (stream_with c.args.serials e)) (stream_with c.args.serials e) e line ≡ Err (ClassOut mine.place)) c.draft.view_is here),
-    record { source = refl; objects = refl; serial = refl; place = refl })
+    (sym c.is_out.ensures ∙ c.if-is_out.true) in (
+      subst (λ (m : PlainReplica). attribute_line (standing_in m (stream_with c.args.serials c.args.draft)) (stream_with c.args.serials c.args.draft) c.args.draft line ≡ Err (ClassOut mine.place)) c.self.view_is
+          (subst (λ (e : PlainDraft). attribute_line (standing_in r (stream_with c.args.serials e)) (stream_with c.args.serials e) e line ≡ Err (ClassOut mine.place)) c.draft.view_is here),
+      record { source = refl; objects = refl; serial = refl; place = refl },
+    )
 
 pub returns-clause-said : goal.returns-clause-said
 returns-clause-said c =
