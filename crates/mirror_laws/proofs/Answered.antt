@@ -4,7 +4,7 @@ use Rattle.std.specs.List.{concat}
 use Rattle.reg_entry.specs.Op.{PlainOp}
 use Rattle.mirror_core.specs.declared.fault.FeedFault.{FeedFault}
 use Rattle.mirror_core.specs.declared.fault.FeedFault.TheVariants.{Spelling, Gap, ForeignSource, ClassOut, Announced, NoMemory}
-use Rattle.mirror_core.specs.Mirror.{PlainMirror, new_mirror, broken}
+use Rattle.mirror_core.specs.Mirror.{PlainMirror, new_mirror}
 use Rattle.mirror_core.specs.Feed.{fed}
 use Rattle.mirror_core.specs.Fed.{IsFedWith, IsOutOfMemory, IsFed}
 use Rattle.mirror_laws.specs.Feed.{IsFeedOf, fed_pieces}

@@ -14,7 +14,6 @@ use Rattle.reg_entry.specs.Operations.{PlainBoard, changes_of, numbered, operati
 use Rattle.reg_entry.specs.Next.{IsLegalFrom, IsLegal}
 use Rattle.reg_entry.specs.Whole.{IsWholeRegister}
 use Rattle.op_feed.specs.ReachedBoard.{IsReachedBoard, HaveSerialsFrom}
-use Rattle.rpsl_text.specs.Forms.{is_source}
 use Rattle.mirror_core.specs.Mirror.{PlainMirror, new_mirror, is_at_rest}
 use Rattle.mirror_core.specs.Objects.{mirrored}
 use Rattle.mirror_laws.specs.Feed.{IsFeedOf, last_serial, fed_pieces}

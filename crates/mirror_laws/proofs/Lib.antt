@@ -17,3 +17,5 @@ pub mod Published
 pub mod Legal
 pub mod Made
 pub mod Answered
+pub mod Capitals
+pub mod Kept

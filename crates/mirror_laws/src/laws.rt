@@ -1,24 +1,31 @@
 //! A mirror that is fed the register's own stream holds the register's objects, proved as contracts of functions that do
 //! nothing.
-ghost use Rattle.std.specs.Prelude.{◌≡◌, ℕ, ◌≤◌, ◌++◌, true, List, [], Option, Result, length, map, take};
+ghost use Rattle.std.specs.Prelude.{◌≡◌, ℕ, ◌≤◌, ◌++◌, true, false, List, [], Option, None, Some, Result, length, map, take, IsTrue};
 ghost use Rattle.std.specs.List.{concat};
 ghost use Rattle.reg_entry.specs.declared.rooms.Rooms.{Rooms};
 ghost use Rattle.reg_entry.specs.Entry.{PlainEntry};
+ghost use Rattle.reg_entry.specs.Name.{is_name};
 ghost use Rattle.reg_entry.specs.Op.{PlainOp};
 ghost use Rattle.reg_entry.specs.Objects.{objects_of};
-ghost use Rattle.reg_entry.specs.Operations.{operations_of};
+ghost use Rattle.reg_entry.specs.Operations.{PlainBoard, operations_of, objects_after};
 ghost use Rattle.reg_entry.specs.Register.{register_after};
-ghost use Rattle.nrtm_stream.specs.Stream.{stream_text};
+ghost use Rattle.op_feed.specs.ReachedBoard.{IsBoardOf};
+ghost use Rattle.rpsl_text.specs.Forms.{is_source};
+ghost use Rattle.nrtm_stream.specs.declared.ask.Ask.{Ask as TheAsk};
+ghost use Rattle.nrtm_stream.specs.Answer.{last_asked, asks_for_newer, are_kept, stream_answer};
+ghost use Rattle.nrtm_stream.specs.Stream.{capitals, stream_text};
 ghost use Rattle.mirror_core.specs.declared.fault.FeedFault.{FeedFault as TheFault};
+ghost use Rattle.mirror_core.specs.Feed.{fed};
 ghost use Rattle.mirror_core.specs.Fed.{IsFed};
 ghost use Rattle.mirror_core.specs.Mirror.{PlainMirror, new_mirror, is_at_rest};
 ghost use Rattle.mirror_core.specs.Objects.{mirrored};
-ghost use Rattle.mirror_laws.specs.Feed.{IsFeedPlan, last_serial, feed_of, IsFeedOf, fed_pieces};
+ghost use Rattle.mirror_laws.specs.Feed.{feed_text, IsFeedPlan, last_serial, feed_of, IsFeedOf, fed_pieces};
 ghost use Rattle.mirror_laws.specs.Follows.{Follows, HoldsOperations, IsFedOrNoMemory};
 ghost use Rattle.mirror_laws.specs.Forms.{HasRequestForms, ArePublished};
 
 use addr_text::{computes_spelled, reads_written, spells_one};
 use cidr_cover::laws::cuts_are_widest;
+use nrtm_stream::laws::streams_have_all_operations;
 use op_feed::laws::reached_boards_number_operations;
 use reg_entry::Request;
 use reg_laws::board::boards_keep_last_operations;
@@ -77,6 +84,41 @@ pub fn feeding_has_no_fault()
         → HoldsOperations source (operations_of rooms es) new }
 {
     mirrors_follow_feeds();
+}
+
+/// The same of a mirror that is fed all bytes at once: a front of a feed, or a whole feed.
+pub fn whole_feeds_are_mirrored()
+    ensures follows { (rooms : Rooms) (es : List PlainEntry) (source bytes rest : List ℕ) → ArePublished rooms es source
+        → IsFeedOf source (operations_of rooms es) (bytes ++ rest)
+        → Follows source (operations_of rooms es) (fed (new_mirror source) bytes) }
+    ensures rests { (rooms : Rooms) (es : List PlainEntry) (source bytes : List ℕ) → ArePublished rooms es source
+        → IsFeedOf source (operations_of rooms es) bytes → is_at_rest (fed (new_mirror source) bytes) ≡ true }
+    ensures objects { (rooms : Rooms) (es : List PlainEntry) (source bytes : List ℕ) → ArePublished rooms es source
+        → (feed : IsFeedOf source (operations_of rooms es) bytes) → (fed (new_mirror source) bytes).objects
+        ≡ map (mirrored source) (objects_after (take (last_serial 0 feed.texts) (operations_of rooms es))) }
+    ensures all_objects { (rooms : Rooms) (es : List PlainEntry) (source bytes : List ℕ) → ArePublished rooms es source
+        → (feed : IsFeedOf source (operations_of rooms es) bytes) → last_serial 0 feed.texts ≡ length (operations_of rooms es)
+        → (fed (new_mirror source) bytes).objects ≡ map (mirrored source) (objects_of (register_after rooms es)) }
+{
+    mirrors_follow_feeds();
+}
+
+/// What a board of a legal list of entries answers of its stream is a text of a feed of all its operations, unless not all
+/// that is asked for is kept; and the name of a registry in capitals is that of a source.
+pub fn answers_are_texts_of_feeds()
+    ensures newer { (b : PlainBoard) (es : List PlainEntry) (source : List ℕ) (ask : TheAsk) → IsTrue (asks_for_newer b ask)
+        → stream_answer b source ask ≡ feed_text source (operations_of b.register.rooms es) None }
+    ensures stream { (b : PlainBoard) (es : List PlainEntry) (source : List ℕ) (ask : TheAsk) → IsBoardOf b es
+        → asks_for_newer b ask ≡ false → IsTrue (are_kept b ask.first (last_asked b.serial ask.last))
+        → stream_answer b source ask
+        ≡ feed_text source (operations_of b.register.rooms es) (Some (ask.first, last_asked b.serial ask.last)) }
+    ensures serials { (b : PlainBoard) (es : List PlainEntry) (first last : ℕ) → IsBoardOf b es → IsTrue (are_kept b first last)
+        → (1 ≤ first) × (first ≤ last) × (last ≤ length (operations_of b.register.rooms es)) }
+    ensures source { (registry : List ℕ) → IsTrue (is_name registry) → IsTrue (is_source (capitals registry)) }
+{
+    streams_have_all_operations();
+    reached_boards_number_operations();
+    boards_keep_last_operations();
 }
 
 /// No bytes are a feed, and so are those of a feed with more texts behind them whose plan goes on with its own. The stream of
