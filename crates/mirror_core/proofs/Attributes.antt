@@ -32,10 +32,6 @@ begins : (attributes : List (List ℕ × List ℕ)) (line : List ℕ) (longer : 
 begins attributes line longer anew h =
     begun_with attributes line longer (name_and_rest line) refl (sym (ap (after_text attributes line) anew) ∙ h)
 
-nothing_begun : (attributes : List (List ℕ × List ℕ)) (line : List ℕ) (named : Option (List ℕ × List ℕ)) → begun attributes named ≡ None → named ≡ None
-nothing_begun attributes line None h = refl
-nothing_begun attributes line (Some parts) h = absurd (cc)
-
 -- what is said of the parts of a line
 abbrev by_parts : PlainMirror → PlainStream → PlainDraft → Option (List ℕ × List ℕ) → Result PlainMirror FeedFault
 by_parts m s d named = elim named [
@@ -46,9 +42,6 @@ by_parts m s d named = elim named [
 module _ (m : PlainMirror) (s : PlainStream) (d : PlainDraft) (line : List ℕ) (room : nat_le most_lines d.lines ≡ false) where
   short : attribute_line m s d line ≡ by_parts m s d (name_and_rest line)
   short = cond-false (nat_le most_lines d.lines) (Err (Spelling m.place)) (by_parts m s d (name_and_rest line)) room
-
-  pub no_name : continuation_of line ≡ None → after_line d.attributes line ≡ None → attribute_line m s d line ≡ Err (Spelling m.place)
-  no_name anew h = short ∙ ap (by_parts m s d) (nothing_begun d.attributes line (name_and_rest line) (sym (ap (after_text d.attributes line) anew) ∙ h))
 
   module _ (longer : List (List ℕ × List ℕ)) (anew : continuation_of line ≡ None) (h : after_line d.attributes line ≡ Some longer) where
     attribute : List ℕ × List ℕ

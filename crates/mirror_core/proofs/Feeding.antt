@@ -130,28 +130,6 @@ followed m front rest new (Announced place) still h = passed_with m front rest n
 followed m front rest new NoMemory still (inl h) = inl (passed_with m front rest new NoMemory still h)
 followed m front rest new NoMemory still (inr h) = inr (passed_without m front rest new h)
 
--- ---- a line that ends
-
-abbrev behind_end : PlainReplica → List ℕ → Result PlainMirror FeedFault → PlainMirror
-behind_end r line said = behind_line (standing r) (length line + 1) said
-
-ended_with : (r after : PlainReplica) (line : List ℕ) (f : FeedFault) → after_line (standing r) (strip_carriage_return line) ≡ Err f
-    → mirror_with after [] (Some f) ≡ broken (standing r) (length line + 1) f → IsFedWith (mirror_with r line None) (10 ∷ []) (mirror_with after [] (Some f)) (Some f)
-ended_with r after line f said is = (is ∙ sym (ap (behind_end r line) said), refl)
-
-pub ended_badly : (r after : PlainReplica) (line : List ℕ) (f : FeedFault) → IsBehind r line after (Err f)
-    → IsFed (mirror_with r line None) (10 ∷ []) (mirror_with after [] (Some f)) (Err f)
-ended_badly r after line (Spelling place) h = ended_with r after line (Spelling place) h.0 h.1
-ended_badly r after line (Gap want got) h = ended_with r after line (Gap want got) h.0 h.1
-ended_badly r after line (ForeignSource place) h = ended_with r after line (ForeignSource place) h.0 h.1
-ended_badly r after line (ClassOut place) h = ended_with r after line (ClassOut place) h.0 h.1
-ended_badly r after line (Announced place) h = ended_with r after line (Announced place) h.0 h.1
-ended_badly r after line NoMemory h = inr (record { front = []; rest = 10 ∷ []; count = length line + 1; split = refl; sound = refl; stopped = h.1 })
-
-pub ended_well : (r after : PlainReplica) (line : List ℕ) → standing after ≡ behind_end r line (after_line (standing r) (strip_carriage_return line))
-    → IsFedWith (mirror_with r line None) (10 ∷ []) (mirror_with after [] None) None
-ended_well r after line h = (h, refl)
-
 -- ---- lines one by one
 
 -- a front of the bytes was fed, and these are left

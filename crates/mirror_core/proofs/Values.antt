@@ -72,9 +72,3 @@ block_read space labels len value start o lens cut values bound starts some h =
     ∙ ap (λ (k : ℕ). Some (block_of space k len)) (starts ∙ ap (λ (v : ℕ). v * block_size space len) values)
     ∙ ap (λ (l : ℕ). Some (block_of space (labels_value (label_bits space) labels * block_size space l) l)) lens
     ∙ sym (cond-true (is_cut_length space (label_bits space * length labels)) _ None (ap (is_cut_length space) (sym lens) ∙ cut))
-
--- more labels than 16 are no cut's
-pub too_many : (space : Space) (n : ℕ) → 16 < n → (is_cut_length space (label_bits space * n) ≡ true) → ⊥
-too_many Asn n h cut = cc
-too_many Ipv4 n h cut = let c = cut_length Ipv4 (8 * n) cut in omega (arith, c.high)
-too_many Ipv6 n h cut = let c = cut_length Ipv6 (4 * n) cut in omega (arith, c.high)
