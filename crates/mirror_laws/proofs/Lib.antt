@@ -17,5 +17,4 @@ pub mod Published
 pub mod Legal
 pub mod Made
 pub mod Answered
-pub mod Capitals
 pub mod Kept

@@ -4,16 +4,14 @@ ghost use Rattle.std.specs.Prelude.{◌≡◌, ℕ, ◌≤◌, ◌++◌, true, f
 ghost use Rattle.std.specs.List.{concat};
 ghost use Rattle.reg_entry.specs.declared.rooms.Rooms.{Rooms};
 ghost use Rattle.reg_entry.specs.Entry.{PlainEntry};
-ghost use Rattle.reg_entry.specs.Name.{is_name};
 ghost use Rattle.reg_entry.specs.Op.{PlainOp};
 ghost use Rattle.reg_entry.specs.Objects.{objects_of};
 ghost use Rattle.reg_entry.specs.Operations.{PlainBoard, operations_of, objects_after};
 ghost use Rattle.reg_entry.specs.Register.{register_after};
 ghost use Rattle.op_feed.specs.ReachedBoard.{IsBoardOf};
-ghost use Rattle.rpsl_text.specs.Forms.{is_source};
 ghost use Rattle.nrtm_stream.specs.declared.ask.Ask.{Ask as TheAsk};
 ghost use Rattle.nrtm_stream.specs.Answer.{last_asked, asks_for_newer, are_kept, stream_answer};
-ghost use Rattle.nrtm_stream.specs.Stream.{capitals, stream_text};
+ghost use Rattle.nrtm_stream.specs.Stream.{stream_text};
 ghost use Rattle.mirror_core.specs.declared.fault.FeedFault.{FeedFault as TheFault};
 ghost use Rattle.mirror_core.specs.Feed.{fed};
 ghost use Rattle.mirror_core.specs.Fed.{IsFed};
@@ -104,7 +102,7 @@ pub fn whole_feeds_are_mirrored()
 }
 
 /// What a board of a legal list of entries answers of its stream is a text of a feed of all its operations, unless not all
-/// that is asked for is kept; and the name of a registry in capitals is that of a source.
+/// that is asked for is kept.
 pub fn answers_are_texts_of_feeds()
     ensures newer { (b : PlainBoard) (es : List PlainEntry) (source : List ℕ) (ask : TheAsk) → IsTrue (asks_for_newer b ask)
         → stream_answer b source ask ≡ feed_text source (operations_of b.register.rooms es) None }
@@ -114,7 +112,6 @@ pub fn answers_are_texts_of_feeds()
         ≡ feed_text source (operations_of b.register.rooms es) (Some (ask.first, last_asked b.serial ask.last)) }
     ensures serials { (b : PlainBoard) (es : List PlainEntry) (first last : ℕ) → IsBoardOf b es → IsTrue (are_kept b first last)
         → (1 ≤ first) × (first ≤ last) × (last ≤ length (operations_of b.register.rooms es)) }
-    ensures source { (registry : List ℕ) → IsTrue (is_name registry) → IsTrue (is_source (capitals registry)) }
 {
     streams_have_all_operations();
     reached_boards_number_operations();

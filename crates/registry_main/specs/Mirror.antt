@@ -1,5 +1,5 @@
 -- What the command `mirror` writes of the change stream that the script is, where the bytes are known.
-use Rattle.std.specs.Prelude.{◌≡◌, ℕ, List, ⊤, ⊥, Option, None, Some}
+use Rattle.std.specs.Prelude.{◌≡◌, ℕ, List, ⊤, Option, None, Some}
 use Rattle.std.specs.Io.KnownBytes.{append_known, Keeps, IsAtEnd}
 use Rattle.mirror_core.specs.declared.fault.FeedFault.{FeedFault}
 use Rattle.mirror_core.specs.declared.fault.FeedFault.TheVariants.{NoMemory}

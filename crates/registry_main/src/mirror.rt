@@ -14,6 +14,7 @@ ghost use Rattle.registry_main.specs.declared.mirror.Unmirrored.TheVariants.{Rea
 use crate::exit::Exit;
 use board::Body;
 use link_face::{Failed, Sink, Source};
+use mirror_core::laws::{faults_stay, pieces_are_fed_alike};
 use mirror_core::{FeedFault, Mirror, Objects, append_attributes};
 use nrtm_stream::source_of;
 use reg_entry::Name;
@@ -61,6 +62,7 @@ impl From<FeedFault> for Unmirrored {
 fn feed_script<T: Source>(mirror: &mut Mirror, script: &mut T) -> Result<(), Unmirrored>
     requires { mirror.old.fault ≡ None }
     ensures fed { OnOk result (IsFedAll mirror.old (T.left script.old) mirror.new) }
+    ensures sound { OnOk result (mirror.new.fault ≡ None) }
     ensures end { OnOk result (IsAtEnd (T.left script.new)) }
     ensures ended { OnOk result (T.has_ended script.new) }
     ensures refused { (fault : TheFeedFault) → result ≡ Err (Refused fault) → EndsWith mirror.old (T.left script.old) (Some fault) }
@@ -69,6 +71,9 @@ fn feed_script<T: Source>(mirror: &mut Mirror, script: &mut T) -> Result<(), Unm
     ensures read { result ≡ Err Read → HasRisen (T.faults script.old) (T.faults script.new) }
     ensures read_told { result ≢ Err Read → T.faults script.new ≡ T.faults script.old }
 {
+    // Laws: feeding in pieces is feeding all, and a fault stays.
+    pieces_are_fed_alike();
+    faults_stay();
     let mut piece = [0; PIECE];
     'pieces: loop {
         match script.read(&mut piece) {

@@ -1,11 +1,13 @@
 //! The program, over whatever it reads from and writes to.
-ghost use Rattle.std.specs.Prelude.{◌≡◌, ◌≢◌, ◌≤◌, ◌<◌, ◌+◌, ◌↔◌, ◌⊎◌, ℕ, List, None, Some, Ok, Err, map};
+ghost use Rattle.std.specs.Prelude.{◌≡◌, ◌≢◌, ◌≤◌, ◌<◌, ◌+◌, ◌↔◌, ◌⊎◌, ◌++◌, ℕ, true, List, None, Some, Ok, Err, length, map};
 ghost use Rattle.std.specs.String.{string_bytes};
 ghost use Rattle.num_range.specs.Range.{PlainRange, IsRange};
 ghost use Rattle.num_range.specs.declared.space.Space.{Space};
 ghost use Rattle.reg_entry.specs.Blocks.{least_block, IsLeastBlock};
 ghost use Rattle.reg_entry.specs.Entry.{PlainEntry};
 ghost use Rattle.reg_entry.specs.Next.{IsLegal};
+ghost use Rattle.reg_entry.specs.Objects.{objects_of};
+ghost use Rattle.reg_entry.specs.Operations.{operations_of};
 ghost use Rattle.reg_entry.specs.Pieces.{overlap, IsLeastTaken};
 ghost use Rattle.reg_entry.specs.Policy.{PlainPolicy, IsPolicy};
 ghost use Rattle.reg_entry.specs.Register.{register_after, register_pieces};
@@ -18,6 +20,13 @@ ghost use Rattle.board.specs.Conserved.{IsConservedBy};
 ghost use Rattle.delegated_ext.specs.Conserved.{AreOfReceived};
 ghost use Rattle.delegated_ext.specs.Records.{record_lines};
 ghost use Rattle.reverse_zone.specs.Delegated.{AreDelegated};
+ghost use Rattle.nrtm_stream.specs.Stream.{capitals};
+ghost use Rattle.mirror_core.specs.Mirror.{is_at_rest};
+ghost use Rattle.mirror_core.specs.Objects.{mirrored};
+ghost use Rattle.mirror_core.specs.Feed.{fed};
+ghost use Rattle.mirror_laws.specs.Feed.{IsFeedOf, last_serial};
+ghost use Rattle.mirror_laws.specs.Follows.{Follows};
+ghost use Rattle.mirror_laws.specs.Forms.{ArePublished};
 ghost use Rattle.registry_main.specs.Session.{rooms, entries_after, register_over};
 ghost use Rattle.registry_main.specs.Batch.{known, IsAnswered};
 ghost use Rattle.registry_main.specs.Command.{command_of};
@@ -41,6 +50,7 @@ use crate::policy_bytes::{NoPolicy, read_policy};
 use crate::publish::answer_publication;
 use crate::session::Session;
 use link_face::{Clock, Sink, Source};
+use mirror_laws::laws::whole_feeds_are_mirrored;
 use policy_table::Policy;
 use std::alloc::Global;
 
@@ -164,6 +174,19 @@ pub fn run<R: AllocGlobal, S: Source, T: Source, K: Sink, C: Clock>(
     ensures zones { (es : List PlainEntry) (p : PlainPolicy) (day : ℕ) (lines : List (List ℕ)) → IsPolicy p → IsLegal rooms es
         → AreDelegated (register_over es p day lines) }
 
+    // So a mirror that is fed its stream follows it: fed a front of a feed of the stream of whatever legal entries, it has no
+    // fault, and holds what playing the operations up to its serial gives; fed all of one that has the last operation, it is at
+    // rest and holds the objects of the register of all these entries.
+    ensures follows { (es : List PlainEntry) (registry feed rest : List ℕ) → ArePublished rooms es (capitals registry)
+        → IsFeedOf (capitals registry) (operations_of rooms es) (feed ++ rest)
+        → Follows (capitals registry) (operations_of rooms es) (fed (mirror_of registry) feed) }
+    ensures rests { (es : List PlainEntry) (registry feed : List ℕ) → ArePublished rooms es (capitals registry)
+        → IsFeedOf (capitals registry) (operations_of rooms es) feed → is_at_rest (fed (mirror_of registry) feed) ≡ true }
+    ensures mirrors { (es : List PlainEntry) (registry feed : List ℕ) → ArePublished rooms es (capitals registry)
+        → (texts : IsFeedOf (capitals registry) (operations_of rooms es) feed)
+        → last_serial 0 texts.texts ≡ length (operations_of rooms es)
+        → (fed (mirror_of registry) feed).objects ≡ map (mirrored (capitals registry)) (objects_of (register_after rooms es)) }
+
     // A delegation takes the least free block, aligned and all of it available, and an overlap is told by the least
     // number that is taken.
     ensures least { (es : List PlainEntry) (p : PlainPolicy) (day : ℕ) (lines : List (List ℕ)) (space : Space) (size : ℕ)
@@ -180,6 +203,7 @@ pub fn run<R: AllocGlobal, S: Source, T: Source, K: Sink, C: Clock>(
     scripts_conserve();
     statistics_conserve();
     zones_are_delegated();
+    whole_feeds_are_mirrored();
     answers_are_least();
     let Some(command) = Command::read(words) else {
         return Exit::Usage;
