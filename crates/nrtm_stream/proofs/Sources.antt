@@ -1,5 +1,5 @@
 -- A registry's name in capitals.
-use Rattle.std.proofs.Common.{◌≡◌, ℕ, ◌-◌, true, false, ◌&&◌, nat_le, nat_lt, List, [], ◌∷◌, map, length, refl, inl, inr, arith}
+use Rattle.std.proofs.Common.{◌≡◌, ℕ, ◌-◌, true, false, ◌&&◌, nat_le, nat_lt, List, [], ◌∷◌, length, refl, inl, inr, arith}
 use Rattle.std.specs.List.{list_all}
 use Rattle.std.specs.Char.{to_ascii_uppercase}
 use Rattle.std.proofs.lemmas.Bool.{and_parts, cases_Bool}
