@@ -1,6 +1,4 @@
-use Rattle.std.proofs.Common.{◌≡◌, ◌∙◌, Err, Some, sym}
-use Rattle.mirror_core.specs.declared.fault.FeedFault.{FeedFault}
-use Rattle.mirror_core.specs.declared.fault.FeedFault.TheVariants.{NoMemory}
+use Rattle.std.proofs.Common.{◌∙◌, sym}
 use Rattle.registry_main.proofs.Fed.{end_is_told}
 use Rattle.registry_main.proofs.mirror.mirror_script.Goals as goal
 

@@ -1,9 +1,9 @@
-use Rattle.std.proofs.Common.{◌≡◌, ◌∙◌, Option, List, ℕ, refl, subst}
+use Rattle.std.proofs.Common.{◌∙◌, List, ℕ, refl, subst}
 use Rattle.std.specs.Io.KnownBytes.{append_known, Appends, Keeps}
 use Rattle.std.proofs.KnownBytes.{Keeps-refl, Keeps-trans}
 use Rattle.mirror_core.specs.Objects.{objects_text}
 use Rattle.registry_main.specs.Batch.{IsFrontWritten}
-use Rattle.registry_main.proofs.Fed.{still, object_kept, block_written, block_begun}
+use Rattle.registry_main.proofs.Fed.{object_kept, block_written, block_begun}
 use Rattle.registry_main.proofs.Written.{OnErr_always}
 use Rattle.registry_main.proofs.mirror.write_objects.Goals as goal
 
