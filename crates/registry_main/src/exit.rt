@@ -64,7 +64,9 @@ impl fmt::Display for Exit {
             Exit::NoMemory => f.write_str("no memory"),
             Exit::FeedRefused(FeedFault::Spelling { .. }) => f.write_str("feed: Spelling"),
             Exit::FeedRefused(FeedFault::Gap { .. }) => f.write_str("feed: Gap"),
-            Exit::FeedRefused(FeedFault::ForeignSource { .. }) => f.write_str("feed: ForeignSource"),
+            Exit::FeedRefused(FeedFault::ForeignSource { .. }) => f.write_str(
+                "feed: ForeignSource",
+            ),
             Exit::FeedRefused(FeedFault::ClassOut { .. }) => f.write_str("feed: ClassOut"),
             Exit::FeedRefused(FeedFault::Announced { .. }) => f.write_str("feed: Announced"),
             Exit::FeedRefused(FeedFault::NoMemory) => f.write_str("feed: NoMemory"),
