@@ -1,6 +1,6 @@
 //! What holds of every register that a script builds, whatever legal entries were there before it, each proved as the
 //! contract of a function that does nothing.
-ghost use Rattle.std.specs.Prelude.{◌≡◌, ℕ, ◌<◌, List, take};
+ghost use Rattle.std.specs.Prelude.{◌≡◌, ℕ, ◌<◌, ◌++◌, true, List, length, map, take};
 ghost use Rattle.num_range.specs.declared.space.Space.{Space};
 ghost use Rattle.num_range.specs.Range.{PlainRange, IsRange};
 ghost use Rattle.reg_entry.specs.declared.rooms.Rooms.{Rooms as TheRooms};
@@ -10,6 +10,8 @@ ghost use Rattle.course_core.specs.Promises.{AreEvents};
 ghost use Rattle.reg_entry.specs.Blocks.{least_block, IsLeastBlock};
 ghost use Rattle.reg_entry.specs.Entry.{PlainEntry};
 ghost use Rattle.reg_entry.specs.Next.{IsLegal};
+ghost use Rattle.reg_entry.specs.Objects.{objects_of};
+ghost use Rattle.reg_entry.specs.Operations.{operations_of};
 ghost use Rattle.reg_entry.specs.Pieces.{overlap, IsLeastTaken};
 ghost use Rattle.reg_entry.specs.Policy.{PlainPolicy, IsPolicy};
 ghost use Rattle.reg_entry.specs.Register.{register_after, register_pieces};
@@ -17,11 +19,20 @@ ghost use Rattle.board.specs.Conserved.{IsConservedBy};
 ghost use Rattle.delegated_ext.specs.Conserved.{AreOfReceived};
 ghost use Rattle.delegated_ext.specs.Records.{record_lines};
 ghost use Rattle.reverse_zone.specs.Delegated.{AreDelegated};
+ghost use Rattle.nrtm_stream.specs.Stream.{capitals};
+ghost use Rattle.mirror_core.specs.Mirror.{is_at_rest};
+ghost use Rattle.mirror_core.specs.Objects.{mirrored};
+ghost use Rattle.mirror_core.specs.Feed.{fed};
+ghost use Rattle.mirror_laws.specs.Feed.{IsFeedOf, last_serial};
+ghost use Rattle.mirror_laws.specs.Follows.{Follows};
+ghost use Rattle.mirror_laws.specs.Forms.{ArePublished};
+ghost use Rattle.registry_main.specs.Mirror.{mirror_of};
 ghost use Rattle.registry_main.specs.Session.{rooms, entries_after, register_over};
 
 use course_core::laws::courses_keep_their_promises;
 use delegated_ext::laws::records_conserve;
 use desk_lang::laws::lines_are_valid;
+use mirror_laws::laws::whole_feeds_are_mirrored;
 use reg_entry::laws::{block_is_least, overlap_is_least};
 use reg_laws::next::accepted_may_come_next;
 use reg_laws::reached::{legal_entries_go_on, reached_registers_conserve, reached_registers_count};
@@ -102,4 +113,21 @@ pub fn courses_have_statistics()
     courses_keep_their_promises();
     legal_entries_go_on();
     records_conserve();
+}
+
+/// Fed a front of a feed of the stream of legal entries, a mirror of the registry has no fault, and holds what playing the
+/// operations up to its serial gives. Fed all of it, it is at rest; and where that has the last operation, it holds the objects
+/// of the register of all these entries.
+pub fn mirrors_follow_registers()
+    ensures follows { (es : List PlainEntry) (registry feed rest : List ℕ) → ArePublished rooms es (capitals registry)
+        → IsFeedOf (capitals registry) (operations_of rooms es) (feed ++ rest)
+        → Follows (capitals registry) (operations_of rooms es) (fed (mirror_of registry) feed) }
+    ensures rests { (es : List PlainEntry) (registry feed : List ℕ) → ArePublished rooms es (capitals registry)
+        → IsFeedOf (capitals registry) (operations_of rooms es) feed → is_at_rest (fed (mirror_of registry) feed) ≡ true }
+    ensures mirrors { (es : List PlainEntry) (registry feed : List ℕ) → ArePublished rooms es (capitals registry)
+        → (texts : IsFeedOf (capitals registry) (operations_of rooms es) feed)
+        → last_serial 0 texts.texts ≡ length (operations_of rooms es)
+        → (fed (mirror_of registry) feed).objects ≡ map (mirrored (capitals registry)) (objects_of (register_after rooms es)) }
+{
+    whole_feeds_are_mirrored();
 }

@@ -42,15 +42,14 @@ use crate::batch::{Stop, answer_script};
 use crate::command::Command;
 use crate::exit::Exit;
 use crate::laws::{
-    accepted_entries_are_legal, answers_are_least, scripts_conserve, statistics_conserve,
-    zones_are_delegated,
+    accepted_entries_are_legal, answers_are_least, mirrors_follow_registers, scripts_conserve,
+    statistics_conserve, zones_are_delegated,
 };
 use crate::mirror::answer_mirror;
 use crate::policy_bytes::{NoPolicy, read_policy};
 use crate::publish::answer_publication;
 use crate::session::Session;
 use link_face::{Clock, Sink, Source};
-use mirror_laws::laws::whole_feeds_are_mirrored;
 use policy_table::Policy;
 use std::alloc::Global;
 
@@ -203,7 +202,7 @@ pub fn run<R: AllocGlobal, S: Source, T: Source, K: Sink, C: Clock>(
     scripts_conserve();
     statistics_conserve();
     zones_are_delegated();
-    whole_feeds_are_mirrored();
+    mirrors_follow_registers();
     answers_are_least();
     let Some(command) = Command::read(words) else {
         return Exit::Usage;
