@@ -1,4 +1,4 @@
-use Rattle.std.proofs.Common.{◌≡◌, true, ap, subst, List, sym, ◌∙◌}
+use Rattle.std.proofs.Common.{ap, subst, List, sym, ◌∙◌}
 use mathlib.Core.List.{IsPrefix}
 use Rattle.entry_log.specs.declared.append.Append.{Append}
 use Rattle.entry_log.proofs.Grown.{begins_where_counted}
