@@ -10,4 +10,4 @@ mod tests;
 
 pub use append::Append;
 pub use front::Front;
-pub use log::{Log, LogRule, open};
+pub use log::{Log, LogRule, open, open_with};

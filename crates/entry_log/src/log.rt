@@ -1,8 +1,9 @@
 //! The log: a word that holds its length, under a rule of the kit's `logbook`.
-ghost use Rattle.std.specs.Prelude.{◌≡◌, []};
+ghost use Rattle.std.specs.Prelude.{◌≡◌, [], IfSome};
 
 use crate::{Append, Front};
 use logbook::{Gain, Offer, Plain, Play, Rule, Seen, Start, Word};
+use reg_entry::Entry;
 use std::marker::Model;
 
 /// The word holds the length of the log.
@@ -79,6 +80,22 @@ pub fn open() -> (Log, Front)
     let (seen, mut first, _second) = Seen::open(Start::alone(), 0, 0);
     let head = Word::tracked(0, &mut first);
     (Log { head }, Front::over(seen))
+}
+
+/// A new log to which the entries were appended, and the front that has them all. There is none only where the log was found
+/// longer than it was left, which nobody else can bring about.
+pub fn open_with(list: &[Entry]) -> Option<(Log, Front)>
+    ensures book { IfSome result (λ t. t.1.book ≡ t.0) }
+    ensures entries { IfSome result (λ t. t.1.entries ≡ list.now) }
+{
+    let (log, mut front) = open();
+    for e in list {
+        let count = front.entries();
+        if !front.add(&log, count, e) {
+            return None;
+        }
+    }
+    Some((log, front))
 }
 
 impl Log {
