@@ -1,0 +1,6 @@
+pub mod Shown
+pub mod Absorbing
+pub mod Rule
+pub mod Pass
+pub mod Faults
+pub mod Press
