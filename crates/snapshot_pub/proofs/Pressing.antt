@@ -1,5 +1,6 @@
 -- What a press keeps when an entry is put.
-use Rattle.std.proofs.Common.{◌≡◌, ◌≤◌, true, false, List, [], ◌∷◌, ◌++◌, length, take, fold, refl, subst, sym, ap, ◌∙◌, le_refl}
+use Rattle.std.specs.Prelude.{MatchOption}
+use Rattle.std.proofs.Common.{◌≡◌, ◌≤◌, Option, None, Some, true, false, List, [], ◌∷◌, ◌++◌, length, take, fold, refl, subst, sym, ap, ◌∙◌, le_refl}
 use Rattle.std.proofs.Math.Seq.{take-length}
 use Rattle.std.proofs.lemmas.List.Sums.{fold-append}
 use mathlib.Core.List.{IsPrefix}
@@ -8,7 +9,7 @@ use Rattle.reg_entry.specs.declared.rooms.Rooms.{Rooms}
 use Rattle.reg_entry.specs.Entry.{PlainEntry}
 use Rattle.reg_entry.specs.Register.{register_after}
 use Rattle.reg_entry.specs.Operations.{PlainBoard, board_after_entry}
-use Rattle.reg_entry.specs.Next.{IsNextEntry, may_come_next}
+use Rattle.reg_entry.specs.Next.{IsNextEntry, may_come_next, IsLegal}
 use Rattle.reg_laws.specs.Reached.{IsRegisterOf}
 use Rattle.op_feed.specs.ReachedBoard.{IsBoardOf}
 use Rattle.entry_log.specs.Front.{PlainFront}
@@ -19,7 +20,9 @@ use Rattle.snapshot_pub.specs.Shown.{PlainShown, IsOfItsList}
 use Rattle.snapshot_pub.specs.Absorbing.{applied, board_if_next}
 use Rattle.snapshot_pub.specs.Rule.{GoesOn, seeing}
 use Rattle.snapshot_pub.specs.Press.{IsPressed, IsBehind}
-use Rattle.snapshot_pub.proofs.Rules.{stays}
+use Rattle.snapshot_pub.specs.Pass.{KnowsAll}
+use Rattle.snapshot_pub.proofs.Rules.{stays, prefix_self}
+use Rattle.snapshot_pub.proofs.Looking.{mapped}
 
 -- the laws that are called
 abbrev pub Reaching : Type 0
@@ -87,3 +90,23 @@ pressed_all x v pending put rooms y w more h is none knows =
     } in
     subst (λ (x : PlainShown). IsPressed x w more put rooms) (sym is)
         (subst (λ (u : View). IsPressed z u more put rooms) (sym (knows ∙ ap seeing is)) (subst (λ (m : List Put). IsPressed z (seeing z) m put rooms) (sym none) now))
+
+-- at the start nothing is pending
+pub going_nowhere : (x : PlainShown) (pending : List Put) → pending ≡ [] → IsOfItsList x → GoesOn x (fold applied x pending)
+going_nowhere x pending none own = subst (λ (m : List Put). GoesOn x (fold applied x m)) (sym none) (stays x own)
+
+pub pressed_first : (x : PlainShown) (put : PlainFront) (rooms : Rooms) (w : View) (more : List Put) (y : PlainShown) → IsOfItsList x → x.front ≡ put → x.board.register.rooms ≡ rooms
+    → y ≡ x → more ≡ [] → w ≡ seeing y → IsPressed y w more put rooms
+pressed_first x put rooms w more y own front rooms_are is none knows =
+    let now : IsPressed x (seeing x) [] put rooms = record { board = own; knows = refl; rooms_are = rooms_are; going = stays x own; put_is = front } in
+    pressed_all x (seeing x) [] put rooms y w more now is none knows
+
+-- a reader that knows what the writer knows has seen all that is published
+pub passes_ready : {A : Type 0} (of : A → View) (o : Option A) (x : PlainShown) (v : View) (pending : List Put) (put : PlainFront) (rooms : Rooms) (front : PlainFront)
+    → IsPressed x v pending put rooms → MatchOption o (Unit {0}) (λ r. of r ≡ v) → front ≡ x.front
+    → IsLegal rooms front.entries × MatchOption o (Unit {0}) (λ r. KnowsAll (of r) rooms front)
+passes_ready of o x v pending put rooms front h same is =
+    let legal : IsLegal rooms x.front.entries = subst (λ (r : Rooms). IsLegal r x.front.entries) h.rooms_are h.board.legal in
+    let knows : KnowsAll (seeing x) rooms x.front = record { knows = refl; rooms_are = h.rooms_are; book = refl; seen = prefix_self x.front.entries } in
+    subst (λ (f : PlainFront). IsLegal rooms f.entries × MatchOption o (Unit {0}) (λ r. KnowsAll (of r) rooms f)) (sym is)
+        (legal, mapped o (λ a e. subst (λ (u : View). KnowsAll u rooms x.front) (sym (e ∙ h.knows)) knows) same)

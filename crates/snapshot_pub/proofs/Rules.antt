@@ -70,3 +70,7 @@ pub merges : (seat : ℕ) (v : View) (other : ℕ) (w : View) → Merges IsPubli
 merges seat v other w x views h at apart there =
     let fits : Fits x w = ⊎_elim (λ (t : (other ≡ seat) × (w ≡ w)). absurd (apart t.0)) (λ (t : (other ≢ seat) × (get_elem? views other ≡ some w)). h.readers other w t.1) (at_set views seat other w w there) in
     set_fits x (set views seat w) other newcomer (set_fits x views seat w h fits) (fits_newcomer x)
+
+-- the rule holds at the start, where nobody has looked
+pub begins : (x : PlainShown) → IsOfItsList x → IsPublished x (newcomer ∷ [])
+begins x own = admits x [] (record { board = own; readers = λ seat v at. absurd cc })

@@ -4,3 +4,4 @@ pub mod Rule
 pub mod Pass
 pub mod Faults
 pub mod Press
+pub mod Opening

@@ -2,6 +2,7 @@
 #![tactic(auto)]
 
 mod fault;
+mod opening;
 mod pass;
 mod press;
 mod put;
@@ -11,6 +12,7 @@ mod told;
 mod view;
 
 pub use fault::{LookFault, Shut};
+pub use opening::open_snapshots;
 pub use pass::Pass;
 pub use press::Press;
 pub use told::Told;

@@ -1,9 +1,11 @@
 //! Those who look.
-ghost use Rattle.std.specs.Prelude.{◌≡◌, true, false, length, IfOk, OnOk, OnErr, MatchResult};
+ghost use Rattle.std.specs.Prelude.{◌≡◌, true, false, length, IfOk, OnOk, OnErr, MatchOption};
+ghost use Rattle.left_right.specs.Sides.{view};
 ghost use mathlib.Core.List.{IsPrefix};
 ghost use Rattle.reg_entry.specs.Operations.{board_after};
 ghost use Rattle.reg_entry.specs.Next.{IsLegal};
 ghost use Rattle.reader_edge.specs.Refusals.{raised};
+ghost use Rattle.snapshot_pub.specs.Pass.{KnowsAll};
 ghost use Rattle.snapshot_pub.specs.Faults.{is_shut};
 
 use crate::{LookFault, Shut, Told};
@@ -12,6 +14,7 @@ use crate::shown::Shown;
 use crate::view::View;
 use board::{Answer, Lens};
 use entry_log::Front;
+use left_right::reader::Reader;
 use op_feed::laws::reached_boards_are_whole;
 use reader_edge::EdgeReader;
 use reg_entry::Rooms;
@@ -41,6 +44,23 @@ impl Model for Pass {
 }
 
 impl Pass {
+    /// A pass that has seen a list, as its reader has, if it has one.
+    pub(crate) fn new(
+        reader: Option<Reader<Shown, View, Published>>,
+        rooms: Rooms,
+        front: Front,
+    ) -> Pass
+        requires legal { IsLegal rooms front.entries }
+        requires knows { MatchOption reader (Unit {0}) (λ r. KnowsAll (view r.place) rooms front) }
+        ensures { result ≡ record { book = front.book; rooms = rooms; entries = front.entries; shuts = 0 } }
+    {
+        Pass {
+            edge: EdgeReader::new(reader),
+            rooms,
+            front,
+        }
+    }
+
     /// Asks the question of what is published. The list that was looked at begins with all that this pass had seen, and is
     /// what it has seen from then on. Where it is shut nothing changes but the count.
     pub fn look<L: Lens>(&mut self, alloc: Global, lens: &L) -> Result<Answer, LookFault>

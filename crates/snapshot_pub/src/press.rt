@@ -1,23 +1,28 @@
 //! The one that publishes.
-ghost use Rattle.std.specs.Prelude.{◌≡◌, ◌++◌, ◌∷◌, [], drop, fold, MatchResult};
+ghost use Rattle.std.specs.Prelude.{◌≡◌, ◌≤◌, ◌++◌, ◌∷◌, [], drop, fold, IfOk, MatchOption, MatchResult};
 ghost use Rattle.left_right.specs.Sides.{view};
 ghost use Rattle.reg_entry.specs.Register.{register_after};
 ghost use Rattle.reg_entry.specs.Next.{IsNextEntry};
+ghost use Rattle.op_feed.specs.ReachedBoard.{IsBoardOf};
 ghost use Rattle.snapshot_pub.specs.Shown.{IsOfItsList};
+ghost use Rattle.snapshot_pub.specs.Opening.{new_pass};
 ghost use Rattle.snapshot_pub.specs.Absorbing.{applied};
 ghost use Rattle.snapshot_pub.specs.Rule.{GoesOn, seeing};
 
 use crate::Told;
+use crate::pass::Pass;
 use crate::put::Put;
-use crate::rule::{Looking, Published};
+use crate::rule::{Learning, Looking, Published, Telling};
 use crate::shown::Shown;
 use crate::view::View;
+use board::Board;
 use core::mem::replace_with;
 use entry_log::{Front, Log};
+use left_right::reader::Reader;
 use left_right::writer::Writer;
 use op_feed::laws::{entries_reach_boards, reached_boards_are_whole};
 use reg_entry::{Entry, Rooms};
-use std::alloc::AllocError;
+use std::alloc::{AllocError, Global};
 use std::marker::Model;
 use std::sync::Wait;
 
@@ -66,7 +71,68 @@ fn publish_all<R: Wait>(writer: &mut PressWriter, rt: &R)
     replace_with(writer, rt, |writer, rt| (published(writer, rt), ()));
 }
 
+/// A reader that knows what the writer knows, or none where none can be made.
+fn seated(writer: &mut PressWriter) -> Option<Reader<Shown, View, Published>>
+    ensures shown { writer.new.desk.shown ≡ writer.old.desk.shown }
+    ensures pending { (writer.new.log ≡ writer.old.log) × (writer.new.behind ≡ writer.old.behind) }
+    ensures view { view writer.new.desk.place ≡ view writer.old.desk.place }
+    ensures knows { MatchOption result (Unit {0}) (λ r. view r.place ≡ view writer.old.desk.place) }
+{
+    let Ok(mut reader) = writer.factory().reader() else {
+        return None;
+    };
+    reader.learn::<Learning>(writer.tell::<Telling>());
+    Some(reader)
+}
+
 impl Press {
+    /// Publishes the board of the list.
+    pub(crate) fn open<R: Wait>(
+        rt: &R,
+        alloc: Global,
+        one: Board,
+        two: Board,
+        log: Log,
+        front: Front,
+        passes: u32,
+    ) -> Result<Press, AllocError>
+        requires passes { 1 ≤ passes }
+        requires list { IsBoardOf one front.entries }
+        requires alike { two ≡ one }
+        requires log { log ≡ front.book }
+        ensures { IfOk result (λ p. p ≡ record { book = front.book; rooms = one.register.rooms; published = front.entries; put = front.entries }) }
+    {
+        let rooms = one.rooms();
+        let first = Shown {
+            board: one,
+            front: front.again(),
+        };
+        let second = Shown {
+            board: two,
+            front: front.again(),
+        };
+        let writer = Writer::new(alloc, first, second, passes as usize)?;
+        // Nothing is pending: so the writer gets to know what it publishes, and can tell it.
+        let writer = published(writer, rt);
+        Ok(Press {
+            writer,
+            log,
+            tip: front.again(),
+            put: front,
+            rooms,
+        })
+    }
+
+    /// A pass that has seen what is published. Where there is no place left for it, it is shut for ever.
+    pub(crate) fn pass(&mut self) -> Pass
+        ensures pass { result ≡ new_pass self.old }
+        ensures same { self.new ≡ self.old }
+    {
+        let front = self.writer.published().front.again();
+        let reader = seated(&mut self.writer);
+        Pass::new(reader, self.rooms, front)
+    }
+
     /// Puts the next entry behind those that were put. Nothing is published by it, and a refusal changes nothing.
     pub fn put(&mut self, e: &Entry) -> Result<(), AllocError>
         requires next { IsNextEntry (register_after self.old.rooms self.old.put) e.now }
