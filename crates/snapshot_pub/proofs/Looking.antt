@@ -60,7 +60,3 @@ pass_now of after rooms front x seen l is =
 pub seen_now : {A : Type 0} (of : A → View) (after : Option A) (rooms : Rooms) (front : PlainFront) (x : PlainShown) (seen : PlainFront)
     → Looked of after rooms front x → seen ≡ x.front → IsPrefix front.entries seen.entries
 seen_now of after rooms front x seen l is = subst (λ (f : PlainFront). IsPrefix front.entries f.entries) (sym is) l.more
-
-pub mapped : {A : Type 0} {P Q : A → Type 0} (o : Option A) → ((a : A) → P a → Q a) → MatchOption o (Unit {0}) P → MatchOption o (Unit {0}) Q
-mapped None f p = tt
-mapped (Some a) f p = f a p

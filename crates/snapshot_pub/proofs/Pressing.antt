@@ -1,6 +1,5 @@
 -- What a press keeps when an entry is put.
-use Rattle.std.specs.Prelude.{MatchOption}
-use Rattle.std.proofs.Common.{◌≡◌, ◌≤◌, Option, None, Some, true, false, List, [], ◌∷◌, ◌++◌, length, take, fold, refl, subst, sym, ap, ◌∙◌, le_refl}
+use Rattle.std.proofs.Common.{◌≡◌, ◌≤◌, true, false, List, [], ◌∷◌, ◌++◌, length, take, fold, refl, subst, sym, ap, ◌∙◌, le_refl}
 use Rattle.std.proofs.Math.Seq.{take-length}
 use Rattle.std.proofs.lemmas.List.Sums.{fold-append}
 use mathlib.Core.List.{IsPrefix}
@@ -9,7 +8,7 @@ use Rattle.reg_entry.specs.declared.rooms.Rooms.{Rooms}
 use Rattle.reg_entry.specs.Entry.{PlainEntry}
 use Rattle.reg_entry.specs.Register.{register_after}
 use Rattle.reg_entry.specs.Operations.{PlainBoard, board_after_entry}
-use Rattle.reg_entry.specs.Next.{IsNextEntry, may_come_next, IsLegal}
+use Rattle.reg_entry.specs.Next.{IsNextEntry, may_come_next}
 use Rattle.reg_laws.specs.Reached.{IsRegisterOf}
 use Rattle.op_feed.specs.ReachedBoard.{IsBoardOf}
 use Rattle.entry_log.specs.Front.{PlainFront}
@@ -20,9 +19,7 @@ use Rattle.snapshot_pub.specs.Shown.{PlainShown, IsOfItsList}
 use Rattle.snapshot_pub.specs.Absorbing.{applied, board_if_next}
 use Rattle.snapshot_pub.specs.Rule.{GoesOn, seeing}
 use Rattle.snapshot_pub.specs.Press.{IsPressed, IsBehind}
-use Rattle.snapshot_pub.specs.Pass.{KnowsAll}
-use Rattle.snapshot_pub.proofs.Rules.{stays, prefix_self}
-use Rattle.snapshot_pub.proofs.Looking.{mapped}
+use Rattle.snapshot_pub.proofs.Rules.{stays}
 
 -- the laws that are called
 abbrev pub Reaching : Type 0
@@ -60,11 +57,11 @@ put_more x v pending put rooms e tip reaching registers h next entries book =
     let rooms_are : y.board.register.rooms ≡ rooms = h.going.rooms ∙ h.rooms_are in
     let list : y.front.entries ≡ put.entries = ap (λ (f : PlainFront). f.entries) h.put_is in
     let same : register_after rooms put.entries ≡ y.board.register =
-        sym (ap (λ (r : Rooms). register_after r put.entries) rooms_are)
-            ∙ (sym (ap (register_after y.board.register.rooms) list) ∙ (registers y.board y.front.entries h.going.board).same) in
+    sym (ap (λ (r : Rooms). register_after r put.entries) rooms_are)
+    ∙ (sym (ap (register_after y.board.register.rooms) list) ∙ (registers y.board y.front.entries h.going.board).same) in
     let next' : IsNextEntry y.board.register e = subst (λ r. IsNextEntry r e) same next in
     let on : GoesOn x (applied y p) =
-        more_by_entry x y e tip reaching h.going next' (entries ∙ ap (λ (es : List PlainEntry). es ++ e ∷ []) (sym list)) (book ∙ sym (ap (λ (f : PlainFront). f.book) h.put_is)) in
+    more_by_entry x y e tip reaching h.going next' (entries ∙ ap (λ (es : List PlainEntry). es ++ e ∷ []) (sym list)) (book ∙ sym (ap (λ (f : PlainFront). f.book) h.put_is)) in
     record {
       board = h.board;
       knows = h.knows;
@@ -89,7 +86,7 @@ pressed_all x v pending put rooms y w more h is none knows =
       put_is = h.put_is;
     } in
     subst (λ (x : PlainShown). IsPressed x w more put rooms) (sym is)
-        (subst (λ (u : View). IsPressed z u more put rooms) (sym (knows ∙ ap seeing is)) (subst (λ (m : List Put). IsPressed z (seeing z) m put rooms) (sym none) now))
+    (subst (λ (u : View). IsPressed z u more put rooms) (sym (knows ∙ ap seeing is)) (subst (λ (m : List Put). IsPressed z (seeing z) m put rooms) (sym none) now))
 
 -- at the start nothing is pending
 pub going_nowhere : (x : PlainShown) (pending : List Put) → pending ≡ [] → IsOfItsList x → GoesOn x (fold applied x pending)
@@ -100,13 +97,3 @@ pub pressed_first : (x : PlainShown) (put : PlainFront) (rooms : Rooms) (w : Vie
 pressed_first x put rooms w more y own front rooms_are is none knows =
     let now : IsPressed x (seeing x) [] put rooms = record { board = own; knows = refl; rooms_are = rooms_are; going = stays x own; put_is = front } in
     pressed_all x (seeing x) [] put rooms y w more now is none knows
-
--- a reader that knows what the writer knows has seen all that is published
-pub passes_ready : {A : Type 0} (of : A → View) (o : Option A) (x : PlainShown) (v : View) (pending : List Put) (put : PlainFront) (rooms : Rooms) (front : PlainFront)
-    → IsPressed x v pending put rooms → MatchOption o (Unit {0}) (λ r. of r ≡ v) → front ≡ x.front
-    → IsLegal rooms front.entries × MatchOption o (Unit {0}) (λ r. KnowsAll (of r) rooms front)
-passes_ready of o x v pending put rooms front h same is =
-    let legal : IsLegal rooms x.front.entries = subst (λ (r : Rooms). IsLegal r x.front.entries) h.rooms_are h.board.legal in
-    let knows : KnowsAll (seeing x) rooms x.front = record { knows = refl; rooms_are = h.rooms_are; book = refl; seen = prefix_self x.front.entries } in
-    subst (λ (f : PlainFront). IsLegal rooms f.entries × MatchOption o (Unit {0}) (λ r. KnowsAll (of r) rooms f)) (sym is)
-        (legal, mapped o (λ a e. subst (λ (u : View). KnowsAll u rooms x.front) (sym (e ∙ h.knows)) knows) same)

@@ -8,6 +8,8 @@ mod press;
 mod put;
 mod rule;
 mod shown;
+#[cfg(test)]
+mod tests;
 mod told;
 mod view;
 

@@ -46,7 +46,7 @@ fn with_passes(press: Press, opened: Vec<Pass>, passes: u32) -> (Press, Vec<Pass
 }
 
 /// Lets a board go as a part of what is published, so that nothing more is to be proved of that.
-fn discard(board: Board) {
+pub(crate) fn discard(board: Board) {
     let (_log, front) = open();
     drop(Shown { board, front });
 }

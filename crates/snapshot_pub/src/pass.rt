@@ -8,10 +8,10 @@ ghost use Rattle.reader_edge.specs.Refusals.{raised};
 ghost use Rattle.snapshot_pub.specs.Pass.{KnowsAll};
 ghost use Rattle.snapshot_pub.specs.Faults.{is_shut};
 
-use crate::{LookFault, Shut, Told};
 use crate::rule::{Looking, Published};
 use crate::shown::Shown;
 use crate::view::View;
+use crate::{LookFault, Shut, Told};
 use board::{Answer, Lens};
 use entry_log::Front;
 use left_right::reader::Reader;

@@ -22,8 +22,7 @@ invariant_of-result g c =
     let own : IsOfItsList first = subst (λ (f : PlainFront). IsBoardOf c.args.one f.entries) (sym c.again.ensures) c.requires.list in
     let writer = c.in_ok-writer.writer in
     let is : c.published-writer.result.desk.shown.value ≡ first =
-        c.published-writer.ensures.shown ∙ (ap (λ (m : List Put). fold applied writer.desk.shown.value m) c.in_ok-writer.ensures.1 ∙ c.in_ok-writer.ensures.0) in
-    (
+    c.published-writer.ensures.shown ∙ (ap (λ (m : List Put). fold applied writer.desk.shown.value m) c.in_ok-writer.ensures.1 ∙ c.in_ok-writer.ensures.0) in (
       subst (λ (f : PlainFront). IsBehind c.args.log f c.args.front) (sym c.again-3.ensures) (behind_itself c.args.log c.args.front c.requires.log),
       pressed_first first c.args.front c.rooms-rooms.result _ _ _ own c.again.ensures (sym c.rooms-rooms.ensures.rooms) is c.published-writer.ensures.pending c.published-writer.ensures.view,
     )

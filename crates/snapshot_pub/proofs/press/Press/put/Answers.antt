@@ -19,12 +19,11 @@ invariant_of-self c =
     let next : IsNextEntry (register_after c.self.inside.rooms put.entries) e = subst (λ (p : PlainPress). IsNextEntry (register_after p.rooms p.put) e) (sym c.self.view_is) c.requires.next in
     let book : tip.book ≡ put.book = c.if-not-add.ensures.book ∙ (ap (λ (f : PlainFront). f.book) c.again-tip.ensures ∙ behind.tip_is) in
     let kept : take c.entries.result c.again-tip.result.entries ≡ put.entries =
-        ap (λ n. take n c.again-tip.result.entries) c.entries.ensures ∙ (ap (λ (f : PlainFront). take (length put.entries) f.entries) c.again-tip.ensures ∙ behind.begins) in
+    ap (λ n. take n c.again-tip.result.entries) c.entries.ensures ∙ (ap (λ (f : PlainFront). take (length put.entries) f.entries) c.again-tip.ensures ∙ behind.begins) in
     let entries : tip.entries ≡ put.entries ++ e ∷ [] = c.if-not-add.ensures.entries ∙ ap (λ (es : List PlainEntry). es ++ e ∷ []) kept in
     let more : IsPressed writer.desk.shown.value (view writer.desk.place) (drop writer.behind writer.log.items ++ record { entry = e; front = tip } ∷ []) tip c.self.inside.rooms =
-        put_more writer.desk.shown.value (view writer.desk.place) (drop writer.behind writer.log.items) put c.self.inside.rooms e tip
-            c.entries_reach_boards.ensures.more c.reached_boards_are_whole.ensures.register c.self.invariant.1 next entries book in
-    (
+    put_more writer.desk.shown.value (view writer.desk.place) (drop writer.behind writer.log.items) put c.self.inside.rooms e tip
+    c.entries_reach_boards.ensures.more c.reached_boards_are_whole.ensures.register c.self.invariant.1 next entries book in (
       subst (λ (f : PlainFront). IsBehind c.self.inside.log f tip) (sym c.again.ensures) (behind_itself c.self.inside.log tip (behind.log_is ∙ sym book)),
       rw (c.in-Ok.ensures.desk, c.in-Ok.ensures.pending, c.again-2.ensures) more,
     )

@@ -10,4 +10,4 @@ returns-clause-absorbed c =
     let e = c.args.operation.now.entry in
     let b : c.take_in.new.board ≡ board_if_next c.args.self.now.board e = c.take_in.ensures ∙ ap (λ (s : PlainShown). board_if_next s.board e) c.self.view_is in
     ap (λ (x : PlainBoard). record { board = x; front = c.again.result }) b
-        ∙ ap (λ (f : PlainFront). record { board = board_if_next c.args.self.now.board e; front = f }) c.again.ensures
+    ∙ ap (λ (f : PlainFront). record { board = board_if_next c.args.self.now.board e; front = f }) c.again.ensures
