@@ -155,6 +155,7 @@ impl Viewer {
 /// Whether the pass has seen what it was told of.
 fn is_told<R: Wait>(rt: &R, press: &mut Press, pass: &mut Pass) -> bool
     requires { pass.old.book ≡ press.old.book }
+    ensures { (press.new.put ≡ press.old.put) × (press.new.rooms ≡ press.old.rooms) }
 {
     let told = press.publish(rt);
     let entries = told.entries();
