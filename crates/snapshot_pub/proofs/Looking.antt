@@ -3,7 +3,6 @@ use Rattle.std.proofs.Common.{◌≡◌, Option, None, Some, refl, subst, sym, �
 use Rattle.std.specs.Prelude.{MatchOption}
 use mathlib.Core.List.{IsPrefix}
 use Rattle.reg_entry.specs.declared.rooms.Rooms.{Rooms}
-use Rattle.reg_entry.specs.Entry.{PlainEntry}
 use Rattle.reg_entry.specs.Next.{IsLegal}
 use Rattle.entry_log.specs.Front.{PlainFront}
 use Rattle.entry_log.proofs.Fronts.{prefix_trans}

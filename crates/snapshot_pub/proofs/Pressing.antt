@@ -1,5 +1,5 @@
 -- What a press keeps when an entry is put.
-use Rattle.std.proofs.Common.{◌≡◌, ◌≤◌, true, false, List, [], ◌∷◌, ◌++◌, length, take, fold, refl, subst, sym, ap, ◌∙◌, le_refl}
+use Rattle.std.proofs.Common.{◌≡◌, List, [], ◌∷◌, ◌++◌, length, fold, refl, subst, sym, ap, ◌∙◌, le_refl}
 use Rattle.std.proofs.Math.Seq.{take-length}
 use Rattle.std.proofs.lemmas.List.Sums.{fold-append}
 use mathlib.Core.List.{IsPrefix}
@@ -8,7 +8,7 @@ use Rattle.reg_entry.specs.declared.rooms.Rooms.{Rooms}
 use Rattle.reg_entry.specs.Entry.{PlainEntry}
 use Rattle.reg_entry.specs.Register.{register_after}
 use Rattle.reg_entry.specs.Operations.{PlainBoard, board_after_entry}
-use Rattle.reg_entry.specs.Next.{IsNextEntry, may_come_next}
+use Rattle.reg_entry.specs.Next.{IsNextEntry}
 use Rattle.reg_laws.specs.Reached.{IsRegisterOf}
 use Rattle.op_feed.specs.ReachedBoard.{IsBoardOf}
 use Rattle.entry_log.specs.Front.{PlainFront}

@@ -1,5 +1,5 @@
 -- The steps keep the rule.
-use Rattle.std.proofs.Common.{◌≡◌, ◌≢◌, ℕ, true, false, List, [], ◌∷◌, ◌++◌, set, refl, sym, subst, ap, ◌∙◌, ⊎_elim}
+use Rattle.std.proofs.Common.{◌≡◌, ◌≢◌, ℕ, List, [], ◌∷◌, set, refl, subst, ◌∙◌, ⊎_elim}
 use Rattle.std.proofs.lemmas.List.{append-nil}
 use mathlib.Core.Option.{some}
 use mathlib.Core.List.{IsPrefix}

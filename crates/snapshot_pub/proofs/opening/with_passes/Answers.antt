@@ -1,4 +1,4 @@
-use Rattle.std.proofs.Common.{◌≡◌, ◌+◌, All, sym, subst, ap, ◌∙◌, List, arith}
+use Rattle.std.proofs.Common.{◌≡◌, All, sym, subst, ap, ◌∙◌, List, arith}
 use Rattle.std.proofs.lemmas.List.Elements.{All-push}
 use Rattle.snapshot_pub.specs.Pass.{PlainPass}
 use Rattle.snapshot_pub.specs.Opening.{new_pass}

@@ -1,8 +1,5 @@
-use Rattle.std.proofs.Common.{◌≡◌, sym, subst, ap, ◌∙◌, List}
-use mathlib.Core.List.{IsPrefix}
+use Rattle.std.proofs.Common.{◌≡◌, ap, ◌∙◌}
 use Rattle.left_right.specs.Sides.{view}
-use Rattle.reg_entry.specs.Entry.{PlainEntry}
-use Rattle.entry_log.specs.Front.{PlainFront}
 use Rattle.snapshot_pub.specs.Shown.{PlainShown}
 use Rattle.snapshot_pub.proofs.Rules.{looks}
 use Rattle.snapshot_pub.proofs.Looking.{where_some, looked, seen_now, pass_now}

@@ -1,4 +1,4 @@
-use Rattle.std.proofs.Common.{◌≡◌, [], List, fold, sym, subst, ap, ◌∙◌}
+use Rattle.std.proofs.Common.{◌≡◌, List, fold, sym, subst, ap, ◌∙◌}
 use Rattle.op_feed.specs.ReachedBoard.{IsBoardOf}
 use Rattle.entry_log.specs.Front.{PlainFront}
 use Rattle.snapshot_pub.specs.declared.put.Put.{Put}

@@ -4,7 +4,6 @@ use Rattle.reg_entry.specs.Entry.{PlainEntry}
 use Rattle.reg_entry.specs.Register.{register_after}
 use Rattle.reg_entry.specs.Next.{IsNextEntry}
 use Rattle.entry_log.specs.Front.{PlainFront}
-use Rattle.snapshot_pub.specs.declared.put.Put.{Put}
 use Rattle.snapshot_pub.specs.Press.{PlainPress, IsPressed, IsBehind}
 use Rattle.snapshot_pub.proofs.Pressing.{put_more, behind_itself}
 use Rattle.snapshot_pub.proofs.press.Press.put.Goals as goal
