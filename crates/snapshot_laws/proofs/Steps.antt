@@ -4,9 +4,9 @@ use mathlib.Core.Option.{some}
 use lib.ListN.{get_elem?}
 use Rattle.reg_entry.specs.Entry.{PlainEntry}
 use Rattle.course_core.specs.Course.{PlainCourse, after_event, after_events}
-use Rattle.course_core.specs.declared.event.Event.TheVariants.{Publish, Look, Tell}
+use Rattle.course_core.specs.declared.event.Event.TheVariants.{Publish, Look}
 use Rattle.snapshot_pub.specs.declared.view.View.{View}
-use Rattle.snapshot_pub.specs.Shown.{PlainShown, IsOfItsList}
+use Rattle.snapshot_pub.specs.Shown.{PlainShown}
 use Rattle.snapshot_pub.specs.Rule.{IsPublished, GoesOn, Sees, seeing}
 use Rattle.snapshot_pub.proofs.Rules.{turns, stays}
 use Rattle.snapshot_laws.specs.Counted.{counted}
@@ -15,7 +15,7 @@ pub publication_keeps : (seat : ℕ) (v : View) (x y : PlainShown) (views : List
     → IsPublished y (set views seat (seeing y)) × Sees v x y (seeing y)
 publication_keeps seat v x y views h at on =
     let t = turns seat v x y (λ own. on) views h at in
-    subst (λ (u : View). IsPublished y (set views seat u) × Sees v x y u) t.1.1.now (t.1.0, t.1.1)
+    subst (λ (u : View). IsPublished y (set views seat u) × Sees v x y u) t.2.now (t.1, t.2)
 
 pub look_keeps : (seat : ℕ) (v : View) (x : PlainShown) (views : List View) → IsPublished x views → get_elem? views seat ≡ some v
     → IsPublished x (set views seat (seeing x)) × Sees v x x (seeing x)
@@ -44,4 +44,4 @@ pub publication_is_event : (c : PlainCourse) (put : List PlainEntry) (seat : ℕ
     → counted c put y (set views seat w) ≡ after_events (counted c put x views) (Publish ∷ Look seat ∷ [])
 publication_is_event c put seat v w x y views saw all =
     ap (λ (counts : List ℕ). record c { journal = put; published = length y.front.entries; seen = counts }) (seen_counts seat v w x y views saw)
-        ∙ ap (λ (es : List PlainEntry). record c { journal = put; published = length es; seen = set (map count_of views) seat (length es) }) all
+    ∙ ap (λ (es : List PlainEntry). record c { journal = put; published = length es; seen = set (map count_of views) seat (length es) }) all
