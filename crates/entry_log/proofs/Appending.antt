@@ -1,0 +1,50 @@
+-- The exchange that appends keeps the rule.
+use Rattle.std.proofs.Common.{◌≡◌, ℕ, ◌+◌, ◌<◌, ◌==◌, Bool, true, false, List, [], ◌∷◌, ◌++◌, length, refl, ap, sym, subst, arith, inl, length-append, None}
+use Rattle.std.proofs.lemmas.List.{append-nil}
+use Rattle.std.proofs.lemmas.Bool.Decides.{nat_tests}
+use mathlib.Core.List.{IsPrefix}
+use prog.Atomic.{either}
+use Rattle.logbook.specs.Pages.{Cell, cell, keeps, no_nib, step, Moves, Goes}
+use Rattle.entry_log.specs.declared.append.Append.{Append}
+use Rattle.entry_log.specs.Steps.{IsKept, Appends}
+use Rattle.entry_log.proofs.Fronts.{prefix_whole}
+
+abbrev pub shown : List Append → List Append
+shown log = []
+
+abbrev pub moved : List Append → List Append → ℕ → Type 0
+moved xs ys n = Unit {0}
+
+appends_goes : (log v : List Append) (a : Append) (old : ℕ) → length v ≡ old → IsPrefix v log
+    → (b : Bool) → (length log == old) ≡ b
+    → Goes IsKept shown moved 0 (v, (no_nib, None)) (λ n. either (n == old) (old + 1) n) (Appends (step 0 old (old + 1) a) (v, (no_nib, None))) ((length log, true) ∷ (0, true) ∷ []) log
+appends_goes log v a old len pre true is =
+    let here : length log ≡ old = grind (arith, nat_tests) in
+    let same : v ≡ log = prefix_whole v log pre (omega arith) in
+    let n : either (length log == old) (old + 1) (length log) ≡ length (log ++ a ∷ []) = rw is (omega (arith, length-append log (a ∷ []))) in (
+      keeps,
+      a ∷ [],
+      None,
+      tt,
+      ap (λ (k : ℕ). (k, true) ∷ (0, true) ∷ []) n,
+      inl (refl, refl),
+      rw is (ap (λ w. w ++ a ∷ []) (sym same)),
+    )
+appends_goes log v a old len pre false is =
+    let all : log ++ [] ≡ log = append-nil log in
+    let n : either (length log == old) (old + 1) (length log) ≡ length (log ++ []) = rw is (ap length (sym all)) in (
+      keeps,
+      [],
+      None,
+      tt,
+      ap (λ (k : ℕ). (k, true) ∷ (0, true) ∷ []) n,
+      inl (refl, refl),
+      rw is (ap length all),
+    )
+
+-- whatever the log is, the exchange appends to all that was seen, or finds that the log is longer
+pub appends_moves : (v : List Append) (a : Append) (old : ℕ) → length v ≡ old
+    → Moves IsKept shown moved 0 (v, (no_nib, None)) (λ n. either (n == old) (old + 1) n) (Appends (step 0 old (old + 1) a) (v, (no_nib, None)))
+appends_moves v a old len cs log kept pre away =
+    let P : List Cell → Type 0 = λ c. (0 < length c) × ((cell c 0).1 ≡ true) × Goes IsKept shown moved 0 (v, (no_nib, None)) (λ n. either (n == old) (old + 1) n) (Appends (step 0 old (old + 1) a) (v, (no_nib, None))) c log in
+    subst P (sym kept) (omega arith, refl, appends_goes log v a old len pre (length log == old) refl)
