@@ -1,0 +1,4 @@
+pub mod Decimals
+pub mod Found
+pub mod Walks
+pub mod Commands

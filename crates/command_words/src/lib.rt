@@ -1,0 +1,10 @@
+//! The words of the command line, and the command that they are.
+#![tactic(auto)]
+
+mod command;
+mod number;
+mod table;
+#[cfg(test)]
+mod tests;
+
+pub use command::{Command, Publication};
