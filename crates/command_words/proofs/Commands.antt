@@ -5,8 +5,8 @@ use Rattle.std.specs.Prelude.{find, option_and_then}
 use Rattle.std.specs.List.{list_any}
 use Rattle.std.specs.Str.{bytes_eq}
 use Rattle.addr_text.specs.Reading.{decimal_up_to}
-use Rattle.clap.specs.Walk.{Held, Names, Row, Rule, Text, Walk, answers_to, finished, idle, nothing_held, pushed, rows_after, settled, subcommand_met, walk, walk_from, walked}
-use Rattle.clap.specs.Simple.{App, Shape, built, built_leaf, inherited, is_simple, marked_built, names_of, subcommand_of, with_leaf_noted}
+use Rattle.clap.specs.Walk.{Held, Names, Row, Text, Walk, answers_to, finished, idle, nothing_held, pushed, rows_after, settled, subcommand_met, walk, walk_from, walked}
+use Rattle.clap.specs.Simple.{Shape, built, built_leaf, inherited, is_simple, marked_built, names_of, subcommand_of, with_leaf_noted}
 use Rattle.clap.specs.Kinds.{HasKind, IsAmong, Kinds, or_else}
 use Rattle.clap.specs.Values.{kind_of}
 use Rattle.clap.specs.declared.error.Error.{Error}
@@ -19,7 +19,7 @@ use Rattle.command_words.specs.declared.command.Publication.TheVariants.{Statist
 use Rattle.command_words.specs.Command.{alone, command_of, load_by, load_of}
 use Rattle.command_words.specs.Table.{begins_with_hyphen, command_in_row, command_met, load_in, row, table}
 use Rattle.command_words.proofs.Decimals.{hyphen_is_none}
-use Rattle.command_words.proofs.Walks.{IsFault, after_walk, enters_fault, enters_rows, fails_then, goes_on, level_fails, none_then, strays, walk_at}
+use Rattle.command_words.proofs.Walks.{IsFault, after_walk, enters_fault, enters_rows, goes_on, level_fails, none_then, strays, walk_at}
 
 -- ---- what `clap` and the definition say of the words
 
@@ -90,7 +90,7 @@ alone_agrees word command (text ∷ rest) plain enters row is =
     let first = none_of (begins_with_hyphen text) (list_any begins_with_hyphen rest) plain in
     inr (
       subst IsFault (sym enters.fault)
-      (level_fails (leaf word []) [] (text ∷ rest) false [] (strays (leaf word []) [] 1 text nothing_held rest first.0 refl refl tt)),
+          (level_fails (leaf word []) [] (text ∷ rest) false [] (strays (leaf word []) [] 1 text nothing_held rest first.0 refl refl tt)),
       is,
     )
 

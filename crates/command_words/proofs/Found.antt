@@ -1,5 +1,5 @@
 -- What was found, by its two parts.
-use Rattle.std.proofs.Common.{◌≡◌, ◌∙◌, List, [], Bool, true, false, true≢false, Option, Some, None, is_some, option_map, refl, sym, ap, ap₂}
+use Rattle.std.proofs.Common.{◌≡◌, List, [], true≢false, Option, Some, None, is_some, option_map, refl, sym, ap, ap₂}
 use Rattle.std.specs.Prelude.{unwrap_or, Box}
 use Rattle.std.specs.Box.{box_value}
 use Rattle.clap.specs.Matches.{subcommand_name_of}

@@ -1,10 +1,10 @@
 -- What `clap` makes of words that don't begin with `-`.
-use Rattle.std.proofs.Common.{◌≡◌, ◌∙◌, ℕ, ◌==◌, ◌&&◌, List, [], ◌∷◌, fold, Bool, cond, true, false, Option, Some, None, is_some, option_map, refl, sym, ap, ap₂, subst}
+use Rattle.std.proofs.Common.{◌≡◌, ◌∙◌, ℕ, ◌&&◌, List, [], ◌∷◌, fold, Bool, cond, true, false, Option, Some, None, is_some, option_map, refl, sym, ap, ap₂, subst}
 use Rattle.std.specs.Prelude.{option_and_then, find}
 use Rattle.std.specs.Option.{option_map_or}
 use Rattle.std.specs.Str.{bytes_eq}
 use Rattle.clap.specs.Lexer.{strip_byte, long_of, long_of_rest, short_of, short_of_rest}
-use Rattle.clap.specs.Walk.{Held, Names, Row, Rule, Step, Text, Walk, after_step, answers_to, arg_by_index, finished, idle, nothing_held, rows_after, settled, subcommand_met, to_positional, value, walk, walk_from, walked, word_met}
+use Rattle.clap.specs.Walk.{Held, Names, Rule, Step, Text, Walk, after_step, answers_to, arg_by_index, finished, idle, nothing_held, settled, subcommand_met, to_positional, value, walk, walk_from, walked, word_met}
 use Rattle.clap.specs.Simple.{App, Shape, entered, label_of, names_of, rows_at}
 use Rattle.clap.specs.Kinds.{Kinds, or_else}
 use Rattle.clap.specs.Faults.{built_fault, check_fault, defaults_fault, entered_fault, level_fault, positional_fault, settle_fault, step_fault, stray_fault, turn_fault, walk_fault, word_fault}

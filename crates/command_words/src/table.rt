@@ -29,5 +29,9 @@ pub(crate) fn table<'a>(alloc: Global) -> Result<Command<'a>, AllocError>
         .subcommand(Command::new(alloc, "stats"))?
         .subcommand(Command::new(alloc, "zones"))?
         .subcommand(Command::new(alloc, "mirror"))?
-        .subcommand(Command::new(alloc, "load").arg(text(alloc, "SEED"))?.arg(text(alloc, "N"))?)
+        .subcommand(
+            Command::new(alloc, "load")
+                .arg(text(alloc, "SEED"))?
+                .arg(text(alloc, "N"))?,
+        )
 }

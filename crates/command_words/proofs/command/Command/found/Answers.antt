@@ -1,4 +1,4 @@
-use Rattle.std.proofs.Common.{◌≡◌, ◌∙◌, sym}
+use Rattle.std.proofs.Common.{◌∙◌, sym}
 use Rattle.clap.specs.Simple.{subcommand_rows_of}
 use Rattle.command_words.proofs.Found.{found_in_row, found_nothing, met_named}
 use Rattle.command_words.proofs.command.Command.found.Goals as goal
