@@ -180,15 +180,15 @@ differs word name e = go (bytes_eq name word) refl
     go false f = refl
 
 -- a word is no row's
-record IsNoRow (word : Text) : Type 0 where
-  batch : bytes_eq word (codes "batch") ≡ false
-  stats : bytes_eq word (codes "stats") ≡ false
-  zones : bytes_eq word (codes "zones") ≡ false
-  mirror : bytes_eq word (codes "mirror") ≡ false
-  load : bytes_eq word (codes "load") ≡ false
+pub record IsNoRow (word : Text) : Type 0 where
+  pub batch : bytes_eq word (codes "batch") ≡ false
+  pub stats : bytes_eq word (codes "stats") ≡ false
+  pub zones : bytes_eq word (codes "zones") ≡ false
+  pub mirror : bytes_eq word (codes "mirror") ≡ false
+  pub load : bytes_eq word (codes "load") ≡ false
 
 -- what holds of each row's word and of all others
-by_rows : (P : Text → Type 0) (word : Text) → P (codes "batch") → P (codes "stats") → P (codes "zones") → P (codes "mirror") → P (codes "load")
+pub by_rows : (P : Text → Type 0) (word : Text) → P (codes "batch") → P (codes "stats") → P (codes "zones") → P (codes "mirror") → P (codes "load")
     → (IsNoRow word → P word) → P word
 by_rows P word batch stats zones mirror load other =
     by_row P (codes "batch") word batch (λ b.
@@ -212,7 +212,7 @@ is_unnamed word not =
     (differs word (codes "batch") not.batch) stats in
     ap (option_map (λ (n : Text × List Text). n.0)) batch
 
-is_no_command : (word : Text) (rest : List Text) → IsNoRow word → command_of (word ∷ rest) ≡ None
+pub is_no_command : (word : Text) (rest : List Text) → IsNoRow word → command_of (word ∷ rest) ≡ None
 is_no_command word rest not = rw (not.batch, not.stats, not.zones, not.mirror, not.load) refl
 
 other_agrees : (word : Text) (rest : List Text) → begins_with_hyphen word ≡ false → IsNoRow word → Agrees (word ∷ rest)

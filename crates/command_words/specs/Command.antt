@@ -1,5 +1,5 @@
 -- What the words of the command line ask for.
-use Rattle.std.specs.Prelude.{ℕ, ◌-◌, ◌^◌, if◌then◌else◌, List, [], ◌∷◌, Option, None, Some, codes}
+use Rattle.std.specs.Prelude.{ℕ, ◌-◌, ◌^◌, ◌<◌, ◌≤◌, decimal, if◌then◌else◌, List, [], ◌∷◌, Option, None, Some, codes}
 use Rattle.std.specs.Str.{bytes_eq}
 use Rattle.addr_text.specs.Reading.{◌>>=◌, decimal_up_to}
 use Rattle.command_words.specs.declared.command.Command.{Command}
@@ -33,3 +33,18 @@ command_of (word ∷ texts) =
     else (if bytes_eq word (codes "mirror") then alone Mirror texts
     else (if bytes_eq word (codes "load") then load_of texts
     else None))))
+
+-- ---- the other way round
+
+-- the words of a command
+abbrev pub words_of : Command → List (List ℕ)
+words_of Batch = codes "batch" ∷ []
+words_of (Publish Statistics) = codes "stats" ∷ []
+words_of (Publish Zones) = codes "zones" ∷ []
+words_of Mirror = codes "mirror" ∷ []
+words_of (Load seed requests) = codes "load" ∷ decimal seed ∷ decimal requests ∷ []
+
+-- the numbers of a command are such as it may have
+abbrev pub IsInBounds : Command → Type 0
+IsInBounds (Load seed requests) = (seed < 2 ^ 64) × (requests ≤ 900000)
+IsInBounds command = Unit {0}
