@@ -1,0 +1,43 @@
+-- Decimals up to a greatest number, none of which begins with `-`.
+use Rattle.std.proofs.Common.{◌≡◌, ℕ, ◌^◌, ◌≤◌, ◌<◌, List, [], ◌∷◌, true, false, true≢false, ne_eqb, Option, Some, None, decimal, refl, sym, ap, ◌∙◌, subst, arith}
+use Rattle.std.proofs.lemmas.Bool.{cond-true, leb-true, le-leb}
+use Rattle.std.proofs.lemmas.Bool.Decides.{Decides-and}
+use Rattle.std.proofs.lemmas.Fmt.{decimal_is_IsNumeral}
+use Rattle.std.proofs.lemmas.Option.{cond_some}
+use Rattle.std.proofs.lemmas.Slice.Eq.{bytes_eq-Decides}
+use Rattle.std.specs.Char.{digit_value}
+use Rattle.std.specs.Str.Parse.{AllDigits, digits_value}
+use Rattle.addr_text.specs.Reading.{decimal_up_to}
+use Rattle.command_words.specs.Table.{begins_with_hyphen}
+
+-- the number that a text is the decimal of is the one that its digits are worth
+pub decimal_found : (most n : ℕ) (text : List ℕ) → text ≡ decimal n → n ≤ most → most < 2 ^ 64 → decimal_up_to most text ≡ Some n
+decimal_found most n text e below fits =
+    let v = digits_value 10 text in
+    let same : v ≡ n = ap (digits_value 10) e ∙ (decimal_is_IsNumeral n (omega arith)).1 in
+    let written : decimal v ≡ text = ap decimal same ∙ sym e in
+    let most_is : v ≤ most = omega (arith, same) in
+    cond-true _ (Some v) None ((Decides-and _ _ (bytes_eq-Decides (decimal v) text) (leb-true v most, le-leb v most)).1 (written, most_is))
+    ∙ ap Some same
+
+pub decimal_spelled : (most n : ℕ) (text : List ℕ) → decimal_up_to most text ≡ Some n → (text ≡ decimal n) × (n ≤ most)
+decimal_spelled most n text e =
+    let v = digits_value 10 text in
+    let (tests, same) = cond_some _ v n e in
+    let both = (Decides-and _ _ (bytes_eq-Decides (decimal v) text) (leb-true v most, le-leb v most)).0 tests in
+    (sym both.0 ∙ ap decimal same, omega (arith, both.1, same))
+
+digits_are_plain : (text : List ℕ) → AllDigits 10 text → begins_with_hyphen text ≡ false
+digits_are_plain [] digits = refl
+digits_are_plain (b ∷ text) digits = ne_eqb b 45 (λ e. absurd (omega (arith, subst (λ x. digit_value x < 10) e digits.0)))
+
+-- what begins with `-` is no decimal
+pub hyphen_is_none : (most : ℕ) (text : List ℕ) → most < 2 ^ 64 → begins_with_hyphen text ≡ true → decimal_up_to most text ≡ None
+hyphen_is_none most text fits hyphen = go (decimal_up_to most text) refl
+  where
+    go : (found : Option ℕ) → decimal_up_to most text ≡ found → found ≡ None
+    go None e = refl
+    go (Some n) e =
+        let spelled = decimal_spelled most n text e in
+        let below : n < 2 ^ 64 = omega (arith, spelled.1) in
+        absurd (true≢false (sym hyphen ∙ ap begins_with_hyphen spelled.0 ∙ digits_are_plain (decimal n) (decimal_is_IsNumeral n below).0.1))

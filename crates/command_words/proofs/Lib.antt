@@ -1,0 +1,6 @@
+pub mod Decimals
+pub mod Found
+pub mod Walks
+pub mod Commands
+pub mod Spelled
+pub mod Rows

@@ -1,0 +1,10 @@
+use Rattle.std.proofs.Common.{◌∙◌, Some, ap}
+use Rattle.clap.specs.Matches.{found_of}
+use Rattle.clap.proofs.WalkLemmas.{first_value-rows}
+use Rattle.command_words.proofs.command.text_of.Goals as goal
+
+pub returns-in-Some : goal.returns-in-Some
+returns-in-Some c = ap Some c.as_bytes.ensures.value ∙ c.in-Some.ensures ∙ first_value-rows (found_of c.args.texts.now) c.args.name.now
+
+pub returns-in-None : goal.returns-in-None
+returns-in-None c = c.in-None.ensures ∙ first_value-rows (found_of c.args.texts.now) c.args.name.now

@@ -1,0 +1,11 @@
+//! The words of the command line, and the command that they are.
+#![tactic(auto)]
+
+mod command;
+pub mod laws;
+mod number;
+mod table;
+#[cfg(test)]
+mod tests;
+
+pub use command::{Command, Publication};
