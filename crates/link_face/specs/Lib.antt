@@ -1,4 +1,5 @@
 pub mod Bytes
+pub mod Doors
 pub mod FailingSink
 pub mod FailingSource
 pub mod FaultPlan
@@ -6,4 +7,5 @@ pub mod Faults
 pub mod InSource
 pub mod MemSink
 pub mod MemSource
+pub mod MemWay
 pub mod OutSink

@@ -9,36 +9,44 @@
 #![tactic(auto)]
 
 pub use clock::Clock;
+pub use door::Door;
 pub use failed::Failed;
 pub use failing_sink::FailingSink;
 pub use failing_source::FailingSource;
 pub use fixed_day::FixedDay;
+pub use gate::Gate;
 pub use in_source::InSource;
 pub use joined::{FailingLink, Joined, MemLink};
 pub use link::Link;
 pub use mem_sink::MemSink;
 pub use mem_source::MemSource;
+pub use mem_way::MemWay;
 pub use out_sink::OutSink;
 pub use sink::Sink;
 pub use socket_link::SocketLink;
 pub use source::Source;
 pub use system_day::SystemDay;
+pub use way::Way;
 
 pub mod clock;
+pub mod door;
 pub mod failed;
 pub mod failing_sink;
 pub mod failing_source;
 mod fault_plan;
 pub mod fixed_day;
+pub mod gate;
 pub mod in_source;
 pub mod joined;
 pub mod link;
 pub mod mem_sink;
 pub mod mem_source;
+pub mod mem_way;
 pub mod out_sink;
 pub mod sink;
 pub mod socket_link;
 pub mod source;
 pub mod system_day;
+pub mod way;
 #[cfg(test)]
 mod tests;
