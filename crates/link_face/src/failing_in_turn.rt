@@ -2,6 +2,7 @@ ghost use Rattle.std.specs.Prelude.{◌≡◌};
 
 use crate::duty::Duty;
 use crate::fault_plan::FaultPlan;
+use crate::in_turn::work_in_turn;
 use crate::outcome::{Outcome, count_back};
 use crate::spawner::Spawner;
 use std::alloc::{AllocError, Global};
@@ -54,14 +55,7 @@ impl Spawner for FailingInTurn<'_> {
         alloc: Global,
         duties: Vec<W>,
     ) -> Result<Vec<Outcome<W::Done>>, AllocError> {
-        let mut outcomes = Vec::with_capacity(alloc, duties.len())?;
-        for duty in duties {
-            outcomes.push_reserved(if self.plan.begin_call() {
-                Outcome::Back
-            } else {
-                Outcome::Ended(duty.work(rt))
-            });
-        }
+        let outcomes = work_in_turn(rt, alloc, &mut self.plan, duties)?;
         self.faults = count_back(self.faults, &outcomes);
         Ok(outcomes)
     }

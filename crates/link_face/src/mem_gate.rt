@@ -165,7 +165,7 @@ impl<L: Link + Drop + Send> Gate for MemGate<L> {
 
     fn way(&mut self, door: Door, port: u16) -> Result<MemWay<L>, Failed>
         ensures place { IfOk result (λ way. (way.door ≡ door) × (way.port ≡ port)) }
-        ensures fresh { IfOk result (λ way. (way.lent ≡ 0) × (way.returned ≡ []) × (0 ≡ 0)) }
+        ensures fresh { IfOk result (λ way. (way.lent ≡ 0) × (way.returned ≡ [])) }
         ensures to_come { IfOk result (λ way. (n : ℕ) × (rest : List ℕ)
             × (links_of (the_door self.old door).to_come ≡ n ∷ rest) × (Some (length way.to_come) ≡ Some n)
             × (Some (links_of (the_door self.new door).to_come) ≡ Some rest)) }

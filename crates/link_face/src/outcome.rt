@@ -28,9 +28,10 @@ pub(crate) fn count_back<T>(faults: u64, outcomes: &[Outcome<T>]) -> u64
     ensures back { list_any is_back outcomes.now ≡ true → HasRisen faults result }
     ensures same { list_any is_back outcomes.now ≡ false → result ≡ faults }
 {
-    if outcomes.iter().any(|outcome| outcome.is_back()) {
-        faults.saturating_add(1)
-    } else {
-        faults
+    for outcome in outcomes {
+        if outcome.is_back() {
+            return faults.saturating_add(1);
+        }
     }
+    faults
 }

@@ -1,5 +1,5 @@
 //! The spawner over threads.
-ghost use Rattle.std.specs.Prelude.{◌≡◌, IfOk};
+ghost use Rattle.std.specs.Prelude.{◌≡◌, ◌≤◌, [], IfOk, map, vec_len, vec_capacity};
 ghost use Rattle.std.specs.List.{AllZip};
 ghost use Rattle.std.specs.Option.{ForSome};
 ghost use Rattle.link_face.specs.Duties.{EndsAs};
@@ -76,10 +76,46 @@ where
 fn end<R: Threads, W: Duty>(rt: &R, begun: Begun<W>) -> Outcome<W::Done>
     ensures { EndsAs W.done begun.duty.value result }
 {
-    match begun.thread {
+    let Begun { thread, duty: _ } = begun;
+    match thread {
         Some(handle) => Outcome::Ended(handle.join(rt)),
         None => Outcome::Back,
     }
+}
+
+fn begin_all<'s, E, R: Threads + Wait + Sync, W: Duty + 's>(
+    scope: &Scope<'s, E>,
+    rt: &'s R,
+    room: Vec<Begun<W>>,
+    duties: Vec<W>,
+) -> Vec<Begun<W>>
+where
+    W::Done: 's,
+    requires empty { room.items ≡ [] }
+    requires room { vec_len duties ≤ vec_capacity room }
+    ensures { map (λ begun. begun.duty.value) result.items ≡ duties.items }
+{
+    let mut all = room;
+    for duty in duties {
+        all.push_reserved(begin(scope, rt, duty));
+    }
+    all
+}
+
+fn end_all<R: Threads, W: Duty>(
+    rt: &R,
+    room: Vec<Outcome<W::Done>>,
+    all: Vec<Begun<W>>,
+) -> Vec<Outcome<W::Done>>
+    requires empty { room.items ≡ [] }
+    requires room { vec_len all ≤ vec_capacity room }
+    ensures { AllZip (EndsAs W.done) (map (λ begun. begun.duty.value) all.items) result.items }
+{
+    let mut outcomes = room;
+    for begun in all {
+        outcomes.push_reserved(end(rt, begun));
+    }
+    outcomes
 }
 
 // Both vectors are reserved before a thread is begun: a scope that is left early waits for its threads.
@@ -93,15 +129,10 @@ where
     W::Done: 's,
     ensures { IfOk result (λ outcomes. AllZip (EndsAs W.done) duties.items outcomes.items) }
 {
-    let mut all = Vec::with_capacity(alloc, duties.len())?;
-    let mut outcomes = Vec::with_capacity(alloc, duties.len())?;
-    for duty in duties {
-        all.push_reserved(begin(scope, rt, duty));
-    }
-    for begun in all {
-        outcomes.push_reserved(end(rt, begun));
-    }
-    Ok(outcomes)
+    let all = Vec::with_capacity(alloc, duties.len())?;
+    let outcomes = Vec::with_capacity(alloc, duties.len())?;
+    let all = begin_all(scope, rt, all, duties);
+    Ok(end_all(rt, outcomes, all))
 }
 
 impl Spawner for ThreadSpawner {
