@@ -1,8 +1,7 @@
 -- How duties end.
-use Rattle.std.specs.Prelude.{◌↔◌, Bool, false, true, IsTrue, List, [], ◌∷◌, ⊤}
+use Rattle.std.specs.Prelude.{Bool, false, true, ⊤}
 use Rattle.link_face.specs.declared.outcome.Outcome.{Outcome}
 use Rattle.link_face.specs.declared.outcome.Outcome.TheVariants.{Ended, Back}
-use Rattle.link_face.specs.FaultPlan.{PlanState, FailsNext, plan_after}
 
 -- a duty that was worked ends with a Done that stands in its relation
 abbrev pub EndsAs : {W D : Type 0} → (W → D → Type 0) → W → Outcome D → Type 0
@@ -13,8 +12,3 @@ EndsAs done duty Back = ⊤
 abbrev pub is_back : {D : Type 0} → Outcome D → Bool
 is_back (Ended x) = false
 is_back Back = true
-
--- just those duties came back whose calls fail
-abbrev pub AreBackAsPlanned : {D : Type 0} → PlanState → List (Outcome D) → Type 0
-AreBackAsPlanned plan [] = ⊤
-AreBackAsPlanned plan (o ∷ os) = (IsTrue (is_back o) ↔ FailsNext plan) × AreBackAsPlanned (plan_after plan) os

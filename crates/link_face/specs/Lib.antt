@@ -1,6 +1,7 @@
 pub mod Bytes
 pub mod Doors
 pub mod Duties
+pub mod FailingGate
 pub mod FailingInTurn
 pub mod FailingSink
 pub mod FailingSource

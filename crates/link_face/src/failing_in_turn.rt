@@ -1,14 +1,9 @@
-ghost use Rattle.std.specs.Prelude.{◌≡◌};
+ghost use Rattle.std.specs.Prelude.{◌≡◌, ◌↔◌, true, false, IsTrue};
+ghost use Rattle.link_face.specs.FaultPlan.{FailsNext, plan_after};
 
-use crate::duty::Duty;
 use crate::fault_plan::FaultPlan;
-use crate::in_turn::work_in_turn;
-use crate::outcome::{Outcome, count_back};
 use crate::spawner::Spawner;
-use std::alloc::{AllocError, Global};
 use std::marker::Model;
-use std::sync::Wait;
-use std::thread::Threads;
 
 /// Works the duties one after another, but for chosen ones, which come back.
 #[derive(Drop)]
@@ -47,16 +42,28 @@ impl<'a> FailingInTurn<'a> {
 }
 
 impl Spawner for FailingInTurn<'_> {
+    ghost use Rattle.std.specs.Prelude.{true};
+
     ghost faults = { λ s. s.faults };
 
-    fn side_by_side<R: Threads + Wait + Sync, W: Duty>(
-        &mut self,
-        rt: &R,
-        alloc: Global,
-        duties: Vec<W>,
-    ) -> Result<Vec<Outcome<W::Done>>, AllocError> {
-        let outcomes = work_in_turn(rt, alloc, &mut self.plan, duties)?;
-        self.faults = count_back(self.faults, &outcomes);
-        Ok(outcomes)
+    ghost can_refuse = { true };
+
+    fn has_threads(&self) -> bool
+        ensures { result ≡ false }
+    {
+        false
+    }
+
+    // The chosen duties come back, and no others.
+    fn refuses(&mut self) -> bool
+        ensures chosen { IsTrue result ↔ FailsNext self.old.plan }
+        ensures plan { self.new.plan ≡ plan_after self.old.plan }
+        ensures faults { self.new.faults ≡ self.old.faults }
+    {
+        self.plan.begin_call()
+    }
+
+    fn count_back(&mut self) {
+        self.faults = self.faults.saturating_add(1);
     }
 }

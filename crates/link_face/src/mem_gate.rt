@@ -1,4 +1,5 @@
-ghost use Rattle.std.specs.Prelude.{◌≡◌, ◌≢◌, ◌≤◌, ◌<◌, ◌+◌, ◌^◌, ◌↔◌, ◌∷◌, ◌++◌, [], ℕ, List, Some, IfOk, IfSome, IsErr, MatchOption, OnOk, OnErr, length};
+ghost use Rattle.std.specs.Prelude.{◌≡◌, ◌≢◌, ◌≤◌, ◌<◌, ◌+◌, ◌^◌, ◌↔◌, ◌∷◌, ◌++◌, [], ℕ, List, None, Some, IfOk, IfSome, IsErr, MatchOption, OnOk, OnErr, length};
+ghost use Rattle.std.specs.Option.{option_to_list};
 ghost use Rattle.link_face.specs.declared.door.Door.{Door};
 ghost use Rattle.link_face.specs.Doors.{at_door, more_by, ways_given};
 ghost use Rattle.link_face.specs.Faults.{HasCause};
@@ -132,6 +133,27 @@ impl<L: Link + Drop> MemGate<L> {
         }
     }
 
+    // The first of the ways to come at the door.
+    fn give(&mut self, door: Door) -> Option<MemWay<L>>
+        ensures way { MatchOption result ((the_door self.old door).to_come ≡ [])
+            (λ way. IsUnused way × ((the_door self.old door).to_come ≡ way ∷ (the_door self.new door).to_come)) }
+        ensures none { result ≡ None → self.new ≡ self.old }
+        ensures given { (the_door self.new door).given ≡ (the_door self.old door).given + length (option_to_list result) }
+        ensures lent { self.new.lent ≡ self.old.lent + length (option_to_list result) }
+        ensures other { (other : Door) → other ≢ door → the_door self.new other ≡ the_door self.old other }
+        ensures returned { self.new.returned ≡ self.old.returned }
+        ensures faults { self.new.faults ≡ self.old.faults }
+    {
+        let next = match door {
+            Door::Http => self.http.give(),
+            Door::Line => self.line.give(),
+        };
+        if next.is_some() {
+            self.lent += 1;
+        }
+        next
+    }
+
     /// The ways that were taken back, in order.
     pub fn returned(&self) -> &[MemWay<L>]
         ensures { result.now ≡ self.now.returned }
@@ -182,15 +204,8 @@ impl<L: Link + Drop + Send> Gate for MemGate<L> {
             × ((the_door self.new door).to_come ≡ rest) × (way ≡ record first { door = door; port = port })) }
         ensures fails { IsErr result ↔ ((the_door self.old door).to_come ≡ []) }
     {
-        let next = match door {
-            Door::Http => self.http.give(),
-            Door::Line => self.line.give(),
-        };
-        match next {
-            Some(way) => {
-                self.lent += 1;
-                Ok(way.given_for(door, port))
-            }
+        match self.give(door) {
+            Some(way) => Ok(way.given_for(door, port)),
             None => {
                 self.faults = self.faults.saturating_add(1);
                 Err(Failed)

@@ -1,7 +1,6 @@
-ghost use Rattle.std.specs.Prelude.{◌≡◌, ◌≤◌, true, false};
+ghost use Rattle.std.specs.Prelude.{◌≡◌};
 ghost use Rattle.std.specs.List.{list_any};
 ghost use Rattle.link_face.specs.Duties.{is_back};
-ghost use Rattle.link_face.specs.Faults.{HasRisen};
 
 /// What became of a duty.
 #[derive(Drop)]
@@ -22,16 +21,14 @@ impl<T> Outcome<T> {
     }
 }
 
-// The count of faults after a call with these outcomes.
-pub(crate) fn count_back<T>(faults: u64, outcomes: &[Outcome<T>]) -> u64
-    ensures kept { faults ≤ result }
-    ensures back { list_any is_back outcomes.now ≡ true → HasRisen faults result }
-    ensures same { list_any is_back outcomes.now ≡ false → result ≡ faults }
+// Whether a duty came back.
+pub(crate) fn any_back<T>(outcomes: &[Outcome<T>]) -> bool
+    ensures { result ≡ list_any is_back outcomes.now }
 {
     for outcome in outcomes {
         if outcome.is_back() {
-            return faults.saturating_add(1);
+            return true;
         }
     }
-    faults
+    false
 }
