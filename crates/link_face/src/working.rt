@@ -146,6 +146,7 @@ fn work_or_refuse<S: Spawner, R: Wait + Sync, W: Duty>(
 }
 
 // Works the duties one after another.
+#[tactic(auto, using(crate::proofs::Duties::back_on))]
 fn work_in_turn<S: Spawner, R: Wait + Sync, W: Duty>(
     spawner: &mut S,
     rt: &R,
