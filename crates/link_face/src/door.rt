@@ -1,0 +1,8 @@
+/// The two doors of the register.
+#[derive(Clone, Copy, Debug, PartialEq, Eq)]
+pub enum Door {
+    /// Where HTTP is spoken.
+    Http,
+    /// Where one line is asked, and one answer sent.
+    Line,
+}
