@@ -7,3 +7,5 @@ pub mod Serving
 pub mod Rising
 pub mod Ending
 pub mod Breaking
+pub mod Settled
+pub mod Reading

@@ -13,3 +13,4 @@ pub mod Answer
 pub mod Receive
 pub mod Pause
 pub mod Conversation
+pub mod Stream

@@ -60,6 +60,7 @@ fn answer_message<L: Link, C: Clock, B: Backend>(
         × AnswersGiven (terms (B.rooms backend.old) policy.now (C.states clock.now) B.goes_on B.may_fail) framer.now.given before result
         (L.written link.old) (L.written link.new) after }
     ensures rooms { B.rooms backend.new ≡ B.rooms backend.old }
+    ensures reference { B.reference backend.new ≡ B.reference backend.old }
     ensures cause { HasCause (L.Source.faults link.old) (L.Source.faults link.new) result }
     ensures reading { read_side (L.taken link.new) (L.left link.new) (L.budget link.new) ≡ read_side (L.taken link.old) (L.left link.old) (L.budget link.old) }
     ensures end { L.has_ended link.old → L.has_ended link.new }
@@ -88,6 +89,7 @@ fn answer_messages<L: Link, C: Clock, B: Backend>(
     ensures code { IfOk result HasPauseCode }
     ensures more { result ≡ Ok TheMore → (0 < framer.new.spare) × IsFalse ended }
     ensures rooms { B.rooms backend.new ≡ B.rooms backend.old }
+    ensures reference { B.reference backend.new ≡ B.reference backend.old }
     ensures cause { HasCause (L.Source.faults link.old) (L.Source.faults link.new) result }
     ensures reading { read_side (L.taken link.new) (L.left link.new) (L.budget link.new) ≡ read_side (L.taken link.old) (L.left link.old) (L.budget link.old) }
     ensures end { L.has_ended link.old → L.has_ended link.new }
@@ -140,6 +142,7 @@ pub fn serve<L: Link, C: Clock, B: Backend>(
     ensures fault { (result ≡ ReadFault) ⊎ (result ≡ WriteFault) → HasRisen (L.Source.faults link.old) (L.Source.faults link.new) }
     ensures told { result ≡ Closed → L.Source.faults link.new ≡ L.Source.faults link.old }
     ensures ends { (result ≡ Closed) ⊎ (result ≡ ReadFault) ⊎ (result ≡ WriteFault) }
+    ensures reference { B.reference backend.new ≡ B.reference backend.old }
 {
     framer.clear();
     'pieces: loop {

@@ -11,6 +11,7 @@ mod lookup;
 mod path;
 mod receive;
 mod reply;
+mod stream;
 #[cfg(test)]
 mod tests;
 
@@ -18,3 +19,4 @@ pub use ask::Ask;
 pub use backend::{Backend, Fault};
 pub use connection::{serve, serve_conn};
 pub use lookup::Lookup;
+pub use stream::serve_line;
