@@ -9,3 +9,5 @@ pub mod Ending
 pub mod Breaking
 pub mod Settled
 pub mod Reading
+pub mod Desks
+pub mod Lines

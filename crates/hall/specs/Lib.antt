@@ -14,3 +14,4 @@ pub mod Receive
 pub mod Pause
 pub mod Conversation
 pub mod Stream
+pub mod Desk

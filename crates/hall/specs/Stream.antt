@@ -1,5 +1,5 @@
 -- The line that asks for the change stream, and what it is answered (NRTM version 3).
-use Rattle.std.specs.Prelude.{◌≡◌, ℕ, ◌≤◌, ◌⊎◌, ⊥, nat_lt, if◌then◌else◌, List, ◌++◌, length, codes, Option, None, Some, Result, Ok, Err, IsOk}
+use Rattle.std.specs.Prelude.{◌≡◌, ℕ, ◌≤◌, ◌⊎◌, nat_lt, if◌then◌else◌, List, ◌++◌, length, codes, Option, None, Some, Result, Ok, Err, IsOk}
 use Rattle.std.specs.Option.{option_map_or}
 use Rattle.std.specs.Str.Lines.{strip_carriage_return}
 use Rattle.std.specs.Io.KnownBytes.{Appends, Consumes}

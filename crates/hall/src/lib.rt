@@ -6,6 +6,8 @@ mod ask;
 mod backend;
 mod board_backend;
 mod connection;
+mod desk_backend;
+pub mod laws;
 mod line;
 mod lookup;
 mod path;

@@ -32,6 +32,7 @@ fn receive<L: Link>(link: &mut L, bytes: &mut ArrayVec<u8, ROOM>) -> Result<bool
     ensures received { HasReceived result (L.taken link.old) (L.left link.old) bytes.old.items (L.taken link.new) (L.left link.new) bytes.new.items }
     ensures budget { result ≡ Ok true → L.budget link.new < L.budget link.old }
     ensures end { result ≡ Ok false → L.has_ended link.new }
+    ensures room { length bytes.new.items ≤ 1026 }
     ensures written { L.written link.new ≡ L.written link.old }
     ensures cause { HasCause (L.Source.faults link.old) (L.Source.faults link.new) result }
 {
@@ -59,6 +60,7 @@ fn receive_line<L: Link>(link: &mut L, bytes: &mut ArrayVec<u8, ROOM>) -> Result
     requires { bytes.old.items ≡ [] }
     ensures taken { Appends (L.taken link.old) (L.taken link.new) bytes.new.items }
     ensures left { Consumes (L.left link.old) (L.left link.new) bytes.new.items }
+    ensures short { length bytes.new.items ≤ 1026 }
     ensures settled { OnOk result (IsSettled (L.has_ended link.new) bytes.new.items) }
     ensures written { L.written link.new ≡ L.written link.old }
     ensures cause { HasCause (L.Source.faults link.old) (L.Source.faults link.new) result }
