@@ -63,7 +63,7 @@ impl<N: Naming, R: Wait + Drop, W: Wait> Backend for DeskBackend<'_, N, R, W> {
             .desk
             .submit(self.rt, self.pass, policy, day, who, request)
         {
-            Ok(answer) => Ok(answer),
+            Ok(decided) => Ok(decided),
             Err(DeskFault::NoMemory { entered: _ }) => Err(Fault::NoMemory),
             Err(DeskFault::Shut { entered: _ }) => Err(Fault::Shut),
         }

@@ -11,8 +11,8 @@ returns-in-Ok-clause-submitted g c before is = (
   refl,
   subst
       (λ s. Submits c.args.self.now.pass.now.rooms (λ es fs. IsPrefix es fs) IsDeskFault c.args.policy.now c.args.day c.args.who.now c.args.request.now s
-      (Ok c.in-Ok.answer) (seen_by c.submit.new.pass))
+      (Ok c.in-Ok.decided) (seen_by c.submit.new.pass))
       (sym is)
-      (decided_on c.args.policy.now c.args.day c.args.who.now c.args.request.now c.args.self.now.pass.now c.submit.new.pass c.in-Ok.answer
+      (decided_on c.args.policy.now c.args.day c.args.who.now c.args.request.now c.args.self.now.pass.now c.submit.new.pass c.in-Ok.decided
       c.in-Ok.ensures.answer.0 (c.in-Ok.ensures.open refl) c.in-Ok.ensures.answer.1),
 )
