@@ -49,8 +49,8 @@ pub trait Gate {
         ensures returned { returned self.new ≡ with_last (returned self.old)
             (way_record (Self.W.door way) (Self.W.port way) (Self.W.returned way)) }
         ensures lent { lent self.old ≡ more_by 1 (lent self.new) }
-        ensures given { given self.new ≡ given self.old }
-        ensures to_come { to_come self.new ≡ to_come self.old }
+        ensures given { (door : Door) → given self.new door ≡ given self.old door }
+        ensures to_come { (door : Door) → to_come self.new door ≡ to_come self.old door }
 
         // The count rises exactly where the way has failed.
         ensures kept { faults self.old ≤ faults self.new }

@@ -1,6 +1,7 @@
-ghost use Rattle.std.specs.Prelude.{◌≡◌, ◌<◌, ◌^◌, ◌++◌, ◌∷◌, [], None, IfSome, length, map, OnOk, OnErr};
+ghost use Rattle.std.specs.Prelude.{◌≡◌, ◌≤◌, ◌<◌, ◌^◌, ◌++◌, ◌∷◌, [], None, Some, IfSome, IfOk, length, map, OnOk, OnErr};
 ghost use Rattle.std.proofs.Props.{props};
-ghost use Rattle.link_face.specs.Doors.{link_record, IsFresh};
+ghost use Rattle.link_face.specs.Doors.{link_record, IsFresh, more_by, links_given};
+ghost use Rattle.link_face.specs.Faults.{HasCause};
 
 use crate::door::Door;
 use crate::failed::Failed;
@@ -84,6 +85,13 @@ impl<L: Link + Drop> MemWay<L> {
         &self.returned
     }
 
+    // Tells callers what every way in memory keeps.
+    pub(crate) fn is_bounded(&self)
+        ensures { length self.now.to_come ≤ 2 ^ 32 }
+    {
+        let _ = self.to_come.len();
+    }
+
     // The same way, as it is given for a door and a port.
     pub(crate) fn given_for(mut self, door: Door, port: u16) -> Self
         ensures { result ≡ record self { door = door; port = port } }
@@ -92,6 +100,14 @@ impl<L: Link + Drop> MemWay<L> {
         self.port = port;
         self
     }
+}
+
+// A way that has given and taken nothing.
+#[derive(Drop)]
+pub(crate) struct UnusedWay<L: Link + Drop> {
+    pub(crate) way: MemWay<L>,
+    ghost lent: { way.lent ≡ 0 },
+    ghost returned: { way.returned ≡ [] },
 }
 
 // Its count of faults is 0 for good, which rules out each error of a caller that has its cause here.
@@ -112,7 +128,21 @@ impl<L: Link + Drop + Send> Way for MemWay<L> {
 
     ghost faults = { λ _. 0 };
 
-    fn accept(&mut self) -> Result<Option<L>, Failed> {
+    fn accept(&mut self) -> Result<Option<L>, Failed>
+        ensures fresh { IfOk result (λ next. IfSome next (λ link. IsFresh
+            (link_record (L.taken link) (L.left link) (L.written link) (L.Source.faults link)))) }
+        ensures links_left { Some (length self.old.to_come) ≡ more_by (links_given result) (Some (length self.new.to_come)) }
+        ensures lent { Some self.new.lent ≡ more_by (links_given result) (Some self.old.lent) }
+        ensures end { IfOk result (λ next. next ≡ None → length self.old.to_come ≡ 0) }
+        ensures bounded { length self.old.to_come ≤ 2 ^ 32 }
+        ensures returned { Some self.new.returned ≡ Some self.old.returned }
+        ensures place { (self.new.door ≡ self.old.door) × (self.new.port ≡ self.old.port) }
+        ensures cause { HasCause 0 0 result }
+
+        // It gives the first of the links to come.
+        ensures first { IfOk result (λ next. IfSome next (λ link. self.old.to_come
+            ≡ link_record (L.taken link) (L.left link) (L.written link) (L.Source.faults link) ∷ self.new.to_come)) }
+    {
         match self.to_come.pop_front() {
             None => Ok(None),
             Some(FreshLink { link }) => {
