@@ -7,3 +7,7 @@ pub mod Serving
 pub mod Rising
 pub mod Ending
 pub mod Breaking
+pub mod Settled
+pub mod Reading
+pub mod Desks
+pub mod Lines

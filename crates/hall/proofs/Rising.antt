@@ -1,16 +1,19 @@
 -- Entries that are seen stay seen.
-use Rattle.std.proofs.Common.{◌≡◌, ℕ, ◌≤◌, List, [], ◌∷◌, ◌++◌, length, take, refl, sym, ap, ◌∙◌, subst, append_assoc, append-nil, arith, length-append}
+use Rattle.std.proofs.Common.{◌≡◌, ℕ, ◌+◌, ◌≤◌, All, List, [], ◌∷◌, ◌++◌, length, take, drop, take-append-drop, refl, sym, ap, ◌∙◌, subst, append_assoc, append-nil, arith, length-append}
 use Rattle.std.specs.Prelude.{Result, Ok, Err}
 use Rattle.std.proofs.Math.Seq.{take-append_seam}
+use Rattle.std.proofs.lemmas.List.Elements.{All-nil, All-cons}
+use mathlib.Core.List.{IsPrefix}
 use Rattle.reg_entry.specs.Entry.{PlainEntry}
 use Rattle.reg_entry.specs.declared.entry.Reply.{Reply}
 use Rattle.reg_entry.specs.declared.entry.Reply.TheVariants.{Accepted, Refused as Denied}
 use Rattle.hall.specs.declared.ask.Ask.{Ask}
 use Rattle.hall.specs.declared.ask.Ask.TheVariants.{Refused, Look, Submit, Unread}
 use Rattle.hall.specs.Standing.{Standing}
-use Rattle.hall.specs.Backend.{with_reply, Submits}
-use Rattle.hall.specs.Turn.{Terms, Turn, IsReplied, AreTurns}
-use Rattle.hall.specs.Prefixes.{KeepsEntries, AreOnPrefixes, BeginsWithSeen}
+use Rattle.desk_book.specs.Reply.{with_reply}
+use Rattle.hall.specs.Backend.{Submits}
+use Rattle.hall.specs.Turn.{Terms, Turn, IsSubmitted, IsReplied, AreTurns}
+use Rattle.hall.specs.Prefixes.{KeepsEntries, AreOnPrefixes, BeginsWithSeen, HasEntryAt}
 
 -- the second list goes on from the first
 abbrev GoesOn : List PlainEntry → List PlainEntry → Type 0
@@ -78,3 +81,42 @@ pub seen_stays : (t : Terms) (before after : Standing) (turns : List Turn) → K
 seen_stays t before after turns keeps are =
     let later : GoesOn before.entries after.entries = turns_go_on t before after turns keeps are in
     record { front = is_front before.entries after.entries later; within = is_shorter before.entries after.entries later }
+
+-- ---- an entry that was accepted
+
+pub entry_stays : (number : ℕ) (e : PlainEntry) (es fs : List PlainEntry) → HasEntryAt number e es → GoesOn es fs → HasEntryAt number e fs
+entry_stays number e es fs (front, back, is, count) later =
+    (front, back ++ later.0, later.1 ∙ ap (λ l. l ++ later.0) is ∙ append_assoc front (e ∷ back) later.0, count)
+
+pub entry_stays_in_turns : (t : Terms) (before after : Standing) (turns : List Turn) (e : PlainEntry) (number : ℕ) → KeepsEntries t
+    → HasEntryAt number e before.entries → AreTurns t before turns after
+    → All (λ u. HasEntryAt number e u.after.entries) turns × HasEntryAt number e after.entries
+entry_stays_in_turns t before after [] e number keeps has same =
+    (All-nil (λ (u : Turn). HasEntryAt number e u.after.entries), subst (λ s. HasEntryAt number e s.entries) (sym same) has)
+entry_stays_in_turns t before after (turn ∷ turns) e number keeps has (first, rest) =
+    let here : HasEntryAt number e turn.after.entries =
+    entry_stays number e before.entries turn.after.entries has
+    (reply_goes_on t turn.head turn.ask before turn.after turn.reply keeps first.1.replied) in
+    let more = entry_stays_in_turns t turn.after after turns e number keeps here rest in
+    (All-cons (λ (u : Turn). HasEntryAt number e u.after.entries) turn turns here more.0, more.1)
+
+accepted_entry : (t : Terms) (head : _) (who : List ℕ) (request : _) (before after : Standing) (reply : List ℕ) (day : ℕ) (e : PlainEntry) (number : ℕ)
+    → KeepsEntries t → IsSubmitted t head who request before reply after day (Ok (Accepted e, number)) → HasEntryAt number e after.entries
+accepted_entry t head who request before after reply day e number keeps submitted =
+    let es : List PlainEntry = submitted.decided.0 in
+    let on = submitted.decided.1 in
+    entry_stays number e (es ++ e ∷ []) after.entries (es, [], refl, on.number_is ∙ length-append es (e ∷ []))
+    (keeps (es ++ e ∷ []) after.entries on.others)
+
+pub accepted_stays : (t : Terms) (before after : Standing) (turn : Turn) (later : List Turn) (who : List ℕ) (request : _) (day : ℕ) (e : PlainEntry) (number : ℕ)
+    → KeepsEntries t → IsSubmitted t turn.head who request before turn.reply turn.after day (Ok (Accepted e, number)) → AreTurns t turn.after later after
+    → All (λ u. HasEntryAt number e u.after.entries) (turn ∷ later) × HasEntryAt number e after.entries
+accepted_stays t before after turn later who request day e number keeps submitted are =
+    let here : HasEntryAt number e turn.after.entries =
+    accepted_entry t turn.head who request before turn.after turn.reply day e number keeps submitted in
+    let more = entry_stays_in_turns t turn.after after later e number keeps here are in
+    (All-cons (λ (u : Turn). HasEntryAt number e u.after.entries) turn later here more.0, more.1)
+
+-- a list that begins with another, as its front
+pub begins_prefix : (seen all : List PlainEntry) → BeginsWithSeen seen all → IsPrefix seen all
+begins_prefix seen all begins = (drop (length seen) all, ap (λ l. l ++ drop (length seen) all) begins.front ∙ take-append-drop (length seen) all)

@@ -1,8 +1,7 @@
 -- What a look and a submit say of the entries behind a connection.
-use Rattle.std.specs.Prelude.{◌≡◌, ℕ, List, [], ◌∷◌, ◌++◌, length, Result, Ok, Err}
+use Rattle.std.specs.Prelude.{◌≡◌, ℕ, List, length, Result, Ok, Err}
 use Rattle.reg_entry.specs.declared.rooms.Rooms.{Rooms}
 use Rattle.reg_entry.specs.declared.entry.Reply.{Reply}
-use Rattle.reg_entry.specs.declared.entry.Reply.TheVariants.{Accepted, Refused}
 use Rattle.reg_entry.specs.declared.request.Request.{Request}
 use Rattle.reg_entry.specs.Entry.{PlainEntry}
 use Rattle.reg_entry.specs.Policy.{PlainPolicy}
@@ -10,13 +9,9 @@ use Rattle.reg_entry.specs.Decision.{decision}
 use Rattle.reg_entry.specs.Register.{register_after}
 use Rattle.reg_entry.specs.Operations.{PlainBoard}
 use Rattle.board.specs.declared.lens.Answer.{Answer}
+use Rattle.desk_book.specs.Reply.{with_reply}
 use Rattle.hall.specs.declared.backend.Fault.{Fault}
 use Rattle.hall.specs.Standing.{Standing, over, IsCausedBetween}
-
--- the entries with the one that the reply tells of
-abbrev pub with_reply : List PlainEntry → Reply → List PlainEntry
-with_reply es (Accepted e) = es ++ e ∷ []
-with_reply es (Refused refusal) = es
 
 -- a lens has these answers on the register of the entries
 abbrev pub AnswersOn : Rooms → (PlainBoard → Answer → Type 0) → List PlainEntry → Answer → Type 0

@@ -13,3 +13,5 @@ pub mod Answer
 pub mod Receive
 pub mod Pause
 pub mod Conversation
+pub mod Stream
+pub mod Desk

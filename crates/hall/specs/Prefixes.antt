@@ -1,5 +1,5 @@
 -- What the turns of a conversation say of one list of entries.
-use Rattle.std.specs.Prelude.{◌≡◌, ℕ, ◌≤◌, List, [], ◌∷◌, ◌++◌, length, take}
+use Rattle.std.specs.Prelude.{◌≡◌, ℕ, ◌+◌, ◌≤◌, List, [], ◌∷◌, ◌++◌, length, take}
 use Rattle.reg_entry.specs.Entry.{PlainEntry}
 use Rattle.hall.specs.Turn.{Terms, Turn}
 
@@ -22,3 +22,8 @@ AreOnPrefixes before (turn ∷ turns) all = IsOnPrefix before turn all × AreOnP
 pub record BeginsWithSeen (seen all : List PlainEntry) : Type 0 where
   pub front : seen ≡ take (length seen) all
   pub within : length seen ≤ length all
+
+-- the entry has this number in the list, counted from 1
+abbrev pub HasEntryAt : ℕ → PlainEntry → List PlainEntry → Type 0
+HasEntryAt number e es =
+    (front : List PlainEntry) × (back : List PlainEntry) × (es ≡ front ++ e ∷ back) × (number ≡ length front + 1)

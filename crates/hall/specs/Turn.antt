@@ -117,9 +117,3 @@ pub record AreServed (t : Terms) (before : Standing) (bytes : List ℕ) (turns :
   pub messages : AreMessages bytes (messages_of turns) rest
   pub replies : AreTurns t before turns after
   pub open_until_last : OnlyLastCloses turns
-
--- ---- over a board alone
-
--- nobody else brings the register on, and no submit has a fault
-abbrev pub alone : Rooms → PlainPolicy → (ℕ → Type 0) → Terms
-alone rooms policy is_day = terms rooms policy is_day (λ es fs. fs ≡ es) (λ fault. ⊥)

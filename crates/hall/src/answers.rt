@@ -39,6 +39,7 @@ fn look_up<B: Backend>(
         before result after }
     ensures code { IfOk result (λ answer. IsTrue (is_reply_code answer.status)) }
     ensures rooms { B.rooms backend.new ≡ B.rooms backend.old }
+    ensures reference { B.reference backend.new ≡ B.reference backend.old }
 {
     match lookup {
         Lookup::Rdap(ask) => {
@@ -81,6 +82,7 @@ pub(crate) fn answer<L: Link, C: Clock, B: Backend>(
     ensures answered { (before : Standing) → B.stands backend.old before → (after : Standing) × B.stands backend.new after
         × AnswersMessage (terms (B.rooms backend.old) policy.now (C.states clock.now) B.goes_on B.may_fail) head.now body.now before result (L.written link.old) (L.written link.new) after }
     ensures rooms { B.rooms backend.new ≡ B.rooms backend.old }
+    ensures reference { B.reference backend.new ≡ B.reference backend.old }
     ensures cause { HasCause (L.Source.faults link.old) (L.Source.faults link.new) result }
     ensures reading { read_side (L.taken link.new) (L.left link.new) (L.budget link.new) ≡ read_side (L.taken link.old) (L.left link.old) (L.budget link.old) }
     ensures end { L.has_ended link.old → L.has_ended link.new }

@@ -1,5 +1,5 @@
 //! What stands behind a connection.
-ghost use Rattle.std.specs.Prelude.{◌≡◌, ◌++◌, List, IfOk};
+ghost use Rattle.std.specs.Prelude.{◌≡◌, ◌++◌, ℕ, List, IfOk};
 ghost use Rattle.reg_entry.specs.declared.rooms.Rooms.{Rooms as TheRooms};
 ghost use Rattle.reg_entry.specs.Entry.{PlainEntry};
 ghost use Rattle.desk_text.specs.ReplyText.{ReplyHasDate};
@@ -40,13 +40,17 @@ pub trait Backend {
     // the faults that a submit may have
     ghost may_fail: { TheFault → Type 0 };
 
+    // by which reference it holds what isn't its own, where it does
+    ghost reference: { Self → ℕ } = { λ _. 0 };
+
     /// Asks a question of the register. It takes memory for the answer alone.
     fn look<L: Lens>(&mut self, alloc: Global, lens: &L) -> Result<Answer, Fault>
         ensures looked { (before : Standing) → stands self.old before → (after : Standing) × stands self.new after
             × goes_on before.entries after.entries
             × LooksAt (rooms self.old) (L.answers lens.now) before result after }
         ensures told { IfOk result (λ answer. (board : PlainBoard) × L.answers lens.now board answer) }
-        ensures rooms { rooms self.new ≡ rooms self.old };
+        ensures rooms { rooms self.new ≡ rooms self.old }
+        ensures reference { reference self.new ≡ reference self.old };
 
     /// Decides a request, takes in the entry that it becomes, and says how many entries there are then.
     fn submit(
@@ -59,5 +63,6 @@ pub trait Backend {
         ensures submitted { (before : Standing) → stands self.old before → (after : Standing) × stands self.new after
             × Submits (rooms self.old) goes_on may_fail policy.now day who.now request.now before result after }
         ensures date { IfOk result (λ answer. ReplyHasDate answer.0) }
-        ensures rooms { rooms self.new ≡ rooms self.old };
+        ensures rooms { rooms self.new ≡ rooms self.old }
+        ensures reference { reference self.new ≡ reference self.old };
 }

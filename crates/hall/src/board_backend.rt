@@ -5,7 +5,7 @@ ghost use Rattle.reg_entry.specs.Decision.{IfAccepted, decision};
 ghost use Rattle.reg_entry.specs.Next.{IsNextEntry};
 ghost use Rattle.reg_laws.specs.Reached.{IsRegisterOf};
 ghost use Rattle.desk_text.specs.ReplyText.{ReplyHasDate};
-ghost use Rattle.hall.specs.Backend.{with_reply};
+ghost use Rattle.desk_book.specs.Reply.{with_reply};
 
 use crate::{Backend, Fault};
 use board::{Answer, Board, Lens};

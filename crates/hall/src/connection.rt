@@ -1,10 +1,11 @@
 //! One connection, from its first message to its end.
 ghost use Rattle.std.specs.Prelude.{◌≡◌, ◌≢◌, ◌<◌, ◌⊎◌, ℕ, Bool, true, false, List, [], Err, IfOk, IsTrue, IsFalse, Ok, length};
 ghost use Rattle.link_face.specs.Faults.{HasCause, HasRisen};
-ghost use Rattle.reg_laws.specs.Reached.{IsRegisterOf};
-ghost use Rattle.reg_entry.specs.Entry.{PlainEntry};
-ghost use Rattle.hall.specs.Standing.{Standing, standing};
-ghost use Rattle.hall.specs.Turn.{terms, alone};
+ghost use mathlib.Core.List.{IsPrefix};
+ghost use Rattle.reg_entry.specs.Next.{IsLegal};
+ghost use Rattle.hall.specs.Standing.{Standing};
+ghost use Rattle.hall.specs.Desk.{seen_by, among_others};
+ghost use Rattle.hall.specs.Turn.{terms};
 ghost use Rattle.hall.specs.Answer.{AnswersGiven};
 ghost use Rattle.hall.specs.Conversation.{HasConversation, known};
 ghost use Rattle.hall.specs.Pause.{HasServed, HasPauseCode, HasClosed};
@@ -18,10 +19,13 @@ use crate::Backend;
 use crate::answers::answer;
 use crate::receive::receive;
 use crate::reply::tell_closing;
-use board::Board;
+use crate::desk_backend::DeskBackend;
+use desk_book::{Desk, Naming};
 use link_face::{Clock, Failed, Link};
 use policy_table::Policy;
+use snapshot_pub::Pass;
 use std::alloc::Global;
+use std::sync::Wait;
 use wire_http::{ConnEnd, Framer, Head, Message, Step};
 
 /// Why no further message is answered.
@@ -60,6 +64,7 @@ fn answer_message<L: Link, C: Clock, B: Backend>(
         × AnswersGiven (terms (B.rooms backend.old) policy.now (C.states clock.now) B.goes_on B.may_fail) framer.now.given before result
         (L.written link.old) (L.written link.new) after }
     ensures rooms { B.rooms backend.new ≡ B.rooms backend.old }
+    ensures reference { B.reference backend.new ≡ B.reference backend.old }
     ensures cause { HasCause (L.Source.faults link.old) (L.Source.faults link.new) result }
     ensures reading { read_side (L.taken link.new) (L.left link.new) (L.budget link.new) ≡ read_side (L.taken link.old) (L.left link.old) (L.budget link.old) }
     ensures end { L.has_ended link.old → L.has_ended link.new }
@@ -88,6 +93,7 @@ fn answer_messages<L: Link, C: Clock, B: Backend>(
     ensures code { IfOk result HasPauseCode }
     ensures more { result ≡ Ok TheMore → (0 < framer.new.spare) × IsFalse ended }
     ensures rooms { B.rooms backend.new ≡ B.rooms backend.old }
+    ensures reference { B.reference backend.new ≡ B.reference backend.old }
     ensures cause { HasCause (L.Source.faults link.old) (L.Source.faults link.new) result }
     ensures reading { read_side (L.taken link.new) (L.left link.new) (L.budget link.new) ≡ read_side (L.taken link.old) (L.left link.old) (L.budget link.old) }
     ensures end { L.has_ended link.old → L.has_ended link.new }
@@ -140,6 +146,7 @@ pub fn serve<L: Link, C: Clock, B: Backend>(
     ensures fault { (result ≡ ReadFault) ⊎ (result ≡ WriteFault) → HasRisen (L.Source.faults link.old) (L.Source.faults link.new) }
     ensures told { result ≡ Closed → L.Source.faults link.new ≡ L.Source.faults link.old }
     ensures ends { (result ≡ Closed) ⊎ (result ≡ ReadFault) ⊎ (result ≡ WriteFault) }
+    ensures reference { B.reference backend.new ≡ B.reference backend.old }
 {
     framer.clear();
     'pieces: loop {
@@ -162,22 +169,54 @@ pub fn serve<L: Link, C: Clock, B: Backend>(
     }
 }
 
-/// Serves one connection over a board, which nobody else changes.
-pub fn serve_conn<L: Link, C: Clock>(
+/// Serves one connection over a desk.
+fn serve_desk<L: Link, C: Clock, N: Naming, R: Wait + Drop, W: Wait>(
     alloc: Global,
     link: &mut L,
     framer: &mut Framer,
-    board: &mut Board,
+    backend: &mut DeskBackend<'_, N, R, W>,
     policy: &Policy,
     clock: &C,
 ) -> ConnEnd
-    ensures conversation { (es : List PlainEntry) → IsRegisterOf board.old.register es → (fs : List PlainEntry) × IsRegisterOf board.new.register fs
-        × HasConversation (alone board.old.register.rooms policy.now (C.states clock.now)) (standing es 0 0)
+    ensures conversation { HasConversation (among_others backend.old.pass.now.rooms policy.now (C.states clock.now)) (seen_by backend.old.pass.now)
         (known (L.taken link.old) (L.left link.old) (L.written link.old)) result (L.has_ended link.new)
-        (known (L.taken link.new) (L.left link.new) (L.written link.new)) (standing fs 0 0) }
+        (known (L.taken link.new) (L.left link.new) (L.written link.new)) (seen_by backend.new.pass.now) }
     ensures fault { (result ≡ ReadFault) ⊎ (result ≡ WriteFault) → HasRisen (L.Source.faults link.old) (L.Source.faults link.new) }
     ensures told { result ≡ Closed → L.Source.faults link.new ≡ L.Source.faults link.old }
     ensures ends { (result ≡ Closed) ⊎ (result ≡ ReadFault) ⊎ (result ≡ WriteFault) }
+    ensures seen { IsPrefix backend.old.pass.now.entries backend.new.pass.now.entries }
+    ensures legal { IsLegal backend.new.pass.now.rooms backend.new.pass.now.entries }
+    ensures same { (backend.new.pass.now.book ≡ backend.old.pass.now.book) × (backend.new.pass.now.rooms ≡ backend.old.pass.now.rooms) }
+    ensures reference { backend.new.pass.ghost_name ≡ backend.old.pass.ghost_name }
 {
-    serve(alloc, link, framer, board, policy, clock)
+    let end = serve(alloc, link, framer, backend, policy, clock);
+    // What every pass keeps, for `legal`.
+    backend.pass.is_legal();
+    end
+}
+
+/// Serves one connection over a desk, with a pass of the desk's snapshots. It takes memory only to look and to submit.
+pub fn serve_conn<L: Link, C: Clock, N: Naming, R: Wait + Drop, W: Wait>(
+    rt: &W,
+    alloc: Global,
+    link: &mut L,
+    framer: &mut Framer,
+    desk: &Desk<N, R>,
+    pass: &mut Pass,
+    policy: &Policy,
+    clock: &C,
+) -> ConnEnd
+    requires named { (pass.old.book ≡ N.book) × (pass.old.rooms ≡ N.rooms) }
+    ensures conversation { HasConversation (among_others pass.old.rooms policy.now (C.states clock.now)) (seen_by pass.old)
+        (known (L.taken link.old) (L.left link.old) (L.written link.old)) result (L.has_ended link.new)
+        (known (L.taken link.new) (L.left link.new) (L.written link.new)) (seen_by pass.new) }
+    ensures fault { (result ≡ ReadFault) ⊎ (result ≡ WriteFault) → HasRisen (L.Source.faults link.old) (L.Source.faults link.new) }
+    ensures told { result ≡ Closed → L.Source.faults link.new ≡ L.Source.faults link.old }
+    ensures ends { (result ≡ Closed) ⊎ (result ≡ ReadFault) ⊎ (result ≡ WriteFault) }
+    ensures seen { IsPrefix pass.old.entries pass.new.entries }
+    ensures legal { IsLegal pass.new.rooms pass.new.entries }
+    ensures same { (pass.new.book ≡ pass.old.book) × (pass.new.rooms ≡ pass.old.rooms) }
+{
+    let mut backend = DeskBackend { rt, desk, pass };
+    serve_desk(alloc, link, framer, &mut backend, policy, clock)
 }

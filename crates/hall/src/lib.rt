@@ -6,11 +6,14 @@ mod ask;
 mod backend;
 mod board_backend;
 mod connection;
+mod desk_backend;
+pub mod laws;
 mod line;
 mod lookup;
 mod path;
 mod receive;
 mod reply;
+mod stream;
 #[cfg(test)]
 mod tests;
 
@@ -18,3 +21,4 @@ pub use ask::Ask;
 pub use backend::{Backend, Fault};
 pub use connection::{serve, serve_conn};
 pub use lookup::Lookup;
+pub use stream::serve_line;

@@ -2,8 +2,9 @@
 ghost use Rattle.std.specs.Prelude.{◌≡◌};
 
 mod connections;
+mod desks;
 
-use crate::{Backend, Fault, serve, serve_conn};
+use crate::{Backend, Fault, serve};
 use board::{Answer, Board, Lens};
 use connections::{EACH_KIND, ENDS, NARROWEST};
 use link_face::{FailingSink, FailingSource, FixedDay, Joined, MemSink, MemSource};
@@ -111,7 +112,7 @@ fn served(alloc: Global, trial: &Trial<'_>) -> Result<Option<Outcome>, AllocErro
     };
     // Behind the board there is one end.
     let mut board = Board::with_room(alloc, ROOMS)?;
-    let end = serve_conn(
+    let end = serve(
         alloc,
         &mut link,
         &mut framer,

@@ -111,6 +111,13 @@ impl Pass {
         Ok(())
     }
 
+    /// Tells callers what every pass keeps: the list that it has seen is legal.
+    pub fn is_legal(&self)
+        ensures { IsLegal self.now.rooms self.now.entries }
+    {
+        let _ = &self.rooms;
+    }
+
     /// How often it was shut, up to the greatest number of the type, at which the count stays.
     pub fn shuts(&self) -> u64
         ensures { result ≡ self.now.shuts }

@@ -133,6 +133,13 @@ impl Press {
         Pass::new(reader, self.rooms, front)
     }
 
+    /// Tells of what is published.
+    pub fn told(&self) -> Told
+        ensures { (result.book ≡ self.now.book) × (result.entries ≡ self.now.published) }
+    {
+        Told::over(self.writer.published().front.again())
+    }
+
     /// Puts the next entry behind those that were put. Nothing is published by it, and a refusal changes nothing.
     pub fn put(&mut self, e: &Entry) -> Result<(), AllocError>
         requires next { IsNextEntry (register_after self.old.rooms self.old.put) e.now }

@@ -48,6 +48,7 @@ messages-smaller g c =
 pub messages-preserved : goal.messages-preserved
 messages-preserved g c = record {
   rooms = c.answer_message.ensures.rooms ∙ c.messages.invariant.rooms;
+  reference = c.answer_message.ensures.reference ∙ c.messages.invariant.reference;
   faults = c.in_ok-answer_message.ensures.cause.same ∙ c.messages.invariant.faults;
   reading = c.answer_message.ensures.reading ∙ c.messages.invariant.reading;
   end = λ ended. c.answer_message.ensures.end (c.messages.invariant.end ended);

@@ -8,6 +8,7 @@ use Rattle.hall.proofs.connection.answer_messages.Given as goal
 abbrev pub invariant-messages : goal.invariant-messages
 invariant-messages g l = record {
   rooms : g.B.Backend.rooms l.backend ≡ g.B.Backend.rooms l.initial.backend;
+  reference : g.B.Backend.reference l.backend ≡ g.B.Backend.reference l.initial.backend;
   faults : g.L.Source.faults l.link ≡ g.L.Source.faults l.initial.link;
   reading : read_side (g.L.Source.taken l.link) (g.L.Source.left l.link) (g.L.Source.budget l.link)
       ≡ read_side (g.L.Source.taken l.initial.link) (g.L.Source.left l.initial.link) (g.L.Source.budget l.initial.link);

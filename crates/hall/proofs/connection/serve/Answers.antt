@@ -14,6 +14,7 @@ use Rattle.hall.proofs.connection.serve.Goals as goal
 pub pieces-init : goal.pieces-init
 pieces-init g c = record {
   rooms = refl;
+  reference = refl;
   faults = refl;
   talked = λ before stands. (
     before,
@@ -119,6 +120,7 @@ returns-in-Err-receive-clause-conversation g c before stands =
 pub pieces-preserved : goal.pieces-preserved
 pieces-preserved g c = record {
   rooms = c.answer_messages.ensures.rooms ∙ c.pieces.invariant.rooms;
+  reference = c.answer_messages.ensures.reference ∙ c.pieces.invariant.reference;
   faults = c.in-Ok-true.ensures.cause.same ∙ c.in-Ok.ensures.cause.same ∙ c.pieces.invariant.faults;
   talked = λ before stands.
       let over : Rooms → Terms =

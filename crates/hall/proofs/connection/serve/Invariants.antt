@@ -8,6 +8,7 @@ use Rattle.hall.proofs.connection.serve.Given as goal
 abbrev pub invariant-pieces : goal.invariant-pieces
 invariant-pieces g l = record {
   rooms : g.B.Backend.rooms l.backend ≡ g.B.Backend.rooms l.initial.backend;
+  reference : g.B.Backend.reference l.backend ≡ g.B.Backend.reference l.initial.backend;
   faults : g.L.Source.faults l.link ≡ g.L.Source.faults l.initial.link;
   talked : (before : Standing) → g.B.Backend.stands l.initial.backend before → (now : Standing) × g.B.Backend.stands l.backend now
       × HasTalked (terms (g.B.Backend.rooms l.initial.backend) l.policy (g.C.Clock.states l.clock) g.B.Backend.goes_on g.B.Backend.may_fail) before

@@ -3,7 +3,7 @@ use Rattle.reg_entry.specs.Entry.{PlainEntry}
 use Rattle.reg_entry.specs.Decision.{decision}
 use Rattle.desk_text.specs.ReplyText.{ReplyHasDate}
 use Rattle.hall.specs.Standing.{standing}
-use Rattle.hall.specs.Backend.{with_reply}
+use Rattle.desk_book.specs.Reply.{with_reply}
 use Rattle.hall.proofs.board_backend.BoardBackend.submit.Goals as goal
 
 pub returns-clause-submitted : goal.returns-clause-submitted

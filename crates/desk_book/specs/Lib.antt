@@ -1,0 +1,4 @@
+pub mod Reply
+pub mod Book
+pub mod Faults
+pub mod Desk

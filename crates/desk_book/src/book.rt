@@ -1,0 +1,258 @@
+//! The list of all entries, the register after them, and the press that publishes it.
+ghost use Rattle.std.specs.Prelude.{◌≡◌, ◌≤◌, ◌++◌, ◌∷◌, [], length, All, IsOk, IfOk, IfErr, IfSome, MatchResult};
+ghost use mathlib.Core.List.{IsPrefix};
+ghost use Rattle.reg_entry.specs.Rooms.{AreRooms};
+ghost use Rattle.reg_entry.specs.Register.{register_after};
+ghost use Rattle.reg_entry.specs.declared.refusal.Refusal.{Refusal};
+ghost use Rattle.reg_entry.specs.declared.entry.Reply.TheVariants.{Accepted, Refused};
+ghost use Rattle.reg_entry.specs.Decision.{decision};
+ghost use Rattle.reg_entry.specs.Next.{IsNextEntry};
+ghost use Rattle.reg_entry.specs.Operations.{empty_board};
+ghost use Rattle.op_feed.specs.ReachedBoard.{IsBoardOf};
+ghost use Rattle.desk_book.specs.Reply.{with_reply};
+ghost use Rattle.desk_book.specs.Faults.{entered_by_submit};
+ghost use Rattle.desk_book.specs.Book.{settled, answered, first_pass, IsLeftAt};
+
+use crate::SubmitFault;
+use board::Board;
+use op_feed::laws::{entries_reach_boards, reached_boards_are_whole};
+use policy_table::Policy;
+use reg_entry::{Entry, Name, Reply, Request, Rooms};
+use request_core::decide;
+use snapshot_pub::{Pass, Press, Told, open_snapshots};
+use std::alloc::{AllocError, Global};
+use std::marker::Model;
+use std::sync::Wait;
+
+/// All entries, the register after them, and what of them is published: all, or all but the last, which is owed. It isn't
+/// dropped: `close` ends it.
+pub struct Book {
+    // It grows in steps that double.
+    list: Vec<Entry>,
+    head: Board,
+    press: Press,
+    // The last entry, where it isn't published yet.
+    owed: Option<Entry>,
+}
+
+impl Model for Book {
+    ghost use Rattle.desk_book.specs.Book.{PlainBook, IsKeptBook};
+
+    ghost Value = { PlainBook };
+
+    ghost view = { λ b. record { book = b.press.book; rooms = b.press.rooms; entries = b.list.items; published = b.press.published } };
+
+    ghost invariant = { λ b. IsKeptBook b.list.items b.head b.press b.owed };
+}
+
+/// Lets a board go. It is a function of its own, so that this is proved once.
+fn discard(board: Board) {
+    drop(board);
+}
+
+/// A book over three boards without entries, one of which is its head.
+fn opened<R: Wait>(
+    rt: &R,
+    alloc: Global,
+    head: Board,
+    one: Board,
+    two: Board,
+    passes: u32,
+) -> Result<(Book, Vec<Pass>), AllocError>
+    requires passes { 1 ≤ passes }
+    requires head { head ≡ empty_board head.register.rooms }
+    requires one { one ≡ head }
+    requires two { two ≡ one }
+    ensures rooms { IfOk result (λ r. r.0.rooms ≡ head.register.rooms) }
+    ensures entries { IfOk result (λ r. (r.0.entries ≡ []) × (r.0.published ≡ [])) }
+    ensures count { IfOk result (λ r. length r.1.items ≡ passes) }
+    ensures passes { IfOk result (λ r. All (λ p. p ≡ first_pass r.0) r.1.items) }
+{
+    match open_snapshots(rt, alloc, one, two, &[], passes) {
+        Ok((press, passes)) => {
+            let book = Book {
+                list: Vec::new(alloc),
+                head,
+                press,
+                owed: None,
+            };
+            Ok((book, passes))
+        }
+        Err(_) => {
+            discard(head);
+            Err(AllocError)
+        }
+    }
+}
+
+/// The same, where one board or two have been made. Each is a function of its own, so that a board is let go in one place.
+fn opened_with_two<R: Wait>(
+    rt: &R,
+    alloc: Global,
+    rooms: Rooms,
+    head: Board,
+    one: Board,
+    passes: u32,
+) -> Result<(Book, Vec<Pass>), AllocError>
+    requires rooms { AreRooms rooms }
+    requires passes { 1 ≤ passes }
+    requires head { head ≡ empty_board rooms }
+    requires one { one ≡ head }
+    ensures rooms { IfOk result (λ r. r.0.rooms ≡ rooms) }
+    ensures entries { IfOk result (λ r. (r.0.entries ≡ []) × (r.0.published ≡ [])) }
+    ensures count { IfOk result (λ r. length r.1.items ≡ passes) }
+    ensures passes { IfOk result (λ r. All (λ p. p ≡ first_pass r.0) r.1.items) }
+{
+    match Board::with_room(alloc, rooms) {
+        Ok(two) => opened(rt, alloc, head, one, two, passes),
+        Err(_) => {
+            discard(head);
+            discard(one);
+            Err(AllocError)
+        }
+    }
+}
+
+fn opened_with_one<R: Wait>(
+    rt: &R,
+    alloc: Global,
+    rooms: Rooms,
+    head: Board,
+    passes: u32,
+) -> Result<(Book, Vec<Pass>), AllocError>
+    requires rooms { AreRooms rooms }
+    requires passes { 1 ≤ passes }
+    requires head { head ≡ empty_board rooms }
+    ensures rooms { IfOk result (λ r. r.0.rooms ≡ rooms) }
+    ensures entries { IfOk result (λ r. (r.0.entries ≡ []) × (r.0.published ≡ [])) }
+    ensures count { IfOk result (λ r. length r.1.items ≡ passes) }
+    ensures passes { IfOk result (λ r. All (λ p. p ≡ first_pass r.0) r.1.items) }
+{
+    match Board::with_room(alloc, rooms) {
+        Ok(one) => opened_with_two(rt, alloc, rooms, head, one, passes),
+        Err(_) => {
+            discard(head);
+            Err(AllocError)
+        }
+    }
+}
+
+impl Book {
+    /// A book without entries, and those who look at what it publishes. Three boards take all the memory that their rooms
+    /// ask for; the list takes its own as it grows.
+    pub fn open<R: Wait>(
+        rt: &R,
+        alloc: Global,
+        rooms: Rooms,
+        passes: u32,
+    ) -> Result<(Book, Vec<Pass>), AllocError>
+        requires rooms { AreRooms rooms }
+        requires passes { 1 ≤ passes }
+        ensures rooms { IfOk result (λ r. r.0.rooms ≡ rooms) }
+        ensures entries { IfOk result (λ r. (r.0.entries ≡ []) × (r.0.published ≡ [])) }
+        ensures count { IfOk result (λ r. length r.1.items ≡ passes) }
+        ensures passes { IfOk result (λ r. All (λ p. p ≡ first_pass r.0) r.1.items) }
+    {
+        let head = Board::with_room(alloc, rooms)?;
+        opened_with_one(rt, alloc, rooms, head, passes)
+    }
+
+    /// Publishes the entry that is owed, if one is. It wants memory only for that; where there is none nothing changes.
+    pub fn settle<R: Wait>(&mut self, rt: &R) -> Result<Told, AllocError>
+        ensures settled { MatchResult result (λ told. self.new ≡ settled self.old) (λ fault. self.new ≡ self.old) }
+        ensures told { IfOk result (λ told. (told.book ≡ self.old.book) × (told.entries ≡ self.old.entries)) }
+        ensures owed { self.old.published ≡ self.old.entries → IsOk result }
+    {
+        match &self.owed {
+            None => Ok(self.press.told()),
+            Some(entry) => match self.press.put(entry) {
+                Ok(()) => {
+                    self.owed = None;
+                    Ok(self.press.publish(rt))
+                }
+                Err(fault) => Err(fault),
+            },
+        }
+    }
+
+    /// Puts the entry of an accepted request behind all entries, of which all are published, and publishes it.
+    fn enter<R: Wait>(&mut self, rt: &R, e: &Entry) -> Result<Told, SubmitFault>
+        requires next { IsNextEntry (register_after self.old.rooms self.old.entries) e.now }
+        requires settled { self.old.published ≡ self.old.entries }
+        ensures answered { IfOk result (λ told. self.new ≡ answered self.old (Accepted e.now)) }
+        ensures told { IfOk result (λ told. (told.book ≡ self.old.book) × (told.entries ≡ self.old.entries ++ e.now ∷ [])) }
+        ensures fault { IfErr result (λ fault. IsLeftAt (entered_by_submit fault) (Accepted e.now) self.old.entries self.new.entries) }
+        ensures owed { IfErr result (λ fault. IfSome (entered_by_submit fault) (λ number. self.new.published ≡ self.old.entries)) }
+        ensures published { IsPrefix self.old.published self.new.published }
+        ensures same { (self.new.book ≡ self.old.book) × (self.new.rooms ≡ self.old.rooms) }
+    {
+        // Laws: the board after the entry is that of the list with it.
+        entries_reach_boards();
+        reached_boards_are_whole();
+        match self.list.push(*e) {
+            Ok(()) => {}
+            Err(_) => return Err(SubmitFault::NoMemory { entered: None }),
+        }
+        self.head.apply(e);
+        match self.press.put(e) {
+            Ok(()) => Ok(self.press.publish(rt)),
+            Err(_) => {
+                self.owed = Some(*e);
+                let entered = Some(self.list.len() as u64);
+                Err(SubmitFault::NoMemory { entered })
+            }
+        }
+    }
+
+    /// Publishes what is owed and decides the request on the register after all entries. The entry that it becomes is put
+    /// behind them, and all is published before this returns. A refusal takes no memory but for what was owed.
+    pub fn submit<R: Wait>(
+        &mut self,
+        rt: &R,
+        policy: &Policy,
+        day: u32,
+        who: &Name,
+        request: &Request,
+    ) -> Result<(Reply, Told), SubmitFault>
+        ensures reply { IfOk result (λ r. r.0 ≡ decision (register_after self.old.rooms self.old.entries) policy.now day who.now request.now) }
+        ensures answered { IfOk result (λ r. self.new ≡ answered self.old r.0) }
+        ensures told { IfOk result (λ r. (r.1.book ≡ self.new.book) × (r.1.entries ≡ self.new.entries)) }
+        ensures fault { IfErr result (λ fault. IsLeftAt (entered_by_submit fault) (decision (register_after self.old.rooms self.old.entries) policy.now day who.now request.now) self.old.entries self.new.entries) }
+        ensures owed { IfErr result (λ fault. IfSome (entered_by_submit fault) (λ number. self.new.published ≡ self.old.entries)) }
+        ensures refused { (refusal : Refusal) → self.old.published ≡ self.old.entries → decision (register_after self.old.rooms self.old.entries) policy.now day who.now request.now ≡ Refused refusal → IsOk result }
+        ensures published { IsPrefix self.old.published self.new.published }
+        ensures same { (self.new.book ≡ self.old.book) × (self.new.rooms ≡ self.old.rooms) }
+    {
+        let told = match self.settle(rt) {
+            Ok(told) => told,
+            Err(_) => return Err(SubmitFault::NoMemory { entered: None }),
+        };
+        let reply = decide(&self.head, policy, day, who, request);
+        match &reply {
+            Reply::Refused(_) => Ok((reply, told)),
+            Reply::Accepted(entry) => match self.enter(rt, entry) {
+                Ok(told) => Ok((reply, told)),
+                Err(fault) => Err(fault),
+            },
+        }
+    }
+
+    /// The register after all entries.
+    pub fn head(&self) -> &Board
+        ensures board { IsBoardOf result.now self.now.entries }
+        ensures rooms { result.now.register.rooms ≡ self.now.rooms }
+    {
+        &self.head
+    }
+
+    /// Ends it. From then on its passes are shut. It takes no memory, and waits for those who still look.
+    pub fn close<R: Wait>(self, rt: &R) {
+        let Book {
+            list: _,
+            head: _,
+            press,
+            owed: _,
+        } = self;
+        press.close(rt);
+    }
+}

@@ -1,0 +1,140 @@
+//! What lies behind the lock.
+ghost use Rattle.std.specs.Prelude.{◌≡◌, true, false, None, IfOk, IfErr, OnOk};
+ghost use mathlib.Core.List.{IsPrefix};
+ghost use Rattle.reg_entry.specs.Register.{register_after};
+ghost use Rattle.reg_entry.specs.Decision.{decision};
+ghost use Rattle.reg_entry.specs.Next.{IsLegal};
+ghost use Rattle.desk_text.specs.ReplyText.{ReplyHasDate};
+ghost use Rattle.reader_edge.specs.Refusals.{raised};
+ghost use Rattle.desk_book.specs.Book.{settled, answered, IsLeftAt};
+ghost use Rattle.desk_book.specs.Faults.{is_shut, entered_by};
+ghost use Rattle.desk_book.specs.Reply.{number_of};
+ghost use Rattle.desk_book.specs.Desk.{IsAnsweredOn, IsEntered};
+
+use crate::{Book, DeskFault, Naming, SubmitFault};
+use desk_text::laws::replies_have_dates;
+use policy_table::Policy;
+use reg_entry::{Name, Reply, Request};
+use snapshot_pub::{Pass, Shut};
+use std::marker::PhantomData;
+use std::sync::Wait;
+
+/// A book of the snapshots that are named, and what it waits by when it is dropped.
+pub(crate) struct Locked<N: Naming, R: Wait + Drop> {
+    book: Book,
+    rt: R,
+    of: PhantomData<N>,
+    ghost named: { (book.book ≡ N.book) × (book.rooms ≡ N.rooms) },
+}
+
+impl<N: Naming, R: Wait + Drop> Drop for Locked<N, R> {
+    fn drop(self) {
+        let Locked { book, rt, of: _ } = self;
+        book.close(&rt);
+    }
+}
+
+/// Settles the book, and lets the pass learn what is published then, until the pass has seen just that.
+fn settle_for<R: Wait>(book: &mut Book, rt: &R, pass: &mut Pass) -> Result<(), DeskFault>
+    requires named { pass.old.book ≡ book.old.book }
+    ensures settled { OnOk result (book.new ≡ settled book.old) }
+    ensures all { OnOk result (pass.new.entries ≡ book.old.entries) }
+    ensures fault { IfErr result (λ fault. entered_by fault ≡ None) }
+    ensures published { is_shut result ≡ true → book.new.published ≡ book.new.entries }
+    ensures entries { book.new.entries ≡ book.old.entries }
+    ensures seen { IsPrefix pass.old.entries pass.new.entries }
+    ensures legal { IsLegal pass.new.rooms pass.new.entries }
+    ensures shut { is_shut result ≡ true → pass.new.shuts ≡ raised pass.old.shuts }
+    ensures open { is_shut result ≡ false → pass.new.shuts ≡ pass.old.shuts }
+    ensures same { (pass.new.book ≡ pass.old.book) × (pass.new.rooms ≡ pass.old.rooms) }
+    ensures same_book { (book.new.book ≡ book.old.book) × (book.new.rooms ≡ book.old.rooms) }
+{
+    for _ in rt.forever() {
+        let told = match book.settle(rt) {
+            Ok(told) => told,
+            Err(_) => return Err(DeskFault::NoMemory { entered: None }),
+        };
+        let entries = told.entries();
+        match pass.learn(told) {
+            Ok(()) => {}
+            Err(Shut) => return Err(DeskFault::Shut { entered: None }),
+        }
+        if pass.entries() == entries {
+            return Ok(());
+        }
+    }
+    unreachable!()
+}
+
+impl<N: Naming, R: Wait + Drop> Locked<N, R> {
+    pub(crate) fn new(book: Book, rt: R) -> Locked<N, R>
+        requires named { (book.book ≡ N.book) × (book.rooms ≡ N.rooms) }
+    {
+        Locked {
+            book,
+            rt,
+            of: PhantomData,
+        }
+    }
+
+    /// Settles, submits, and lets the pass learn what is published before and after.
+    pub(crate) fn submit(
+        &mut self,
+        rt: &R,
+        pass: &mut Pass,
+        policy: &Policy,
+        day: u32,
+        who: &Name,
+        request: &Request,
+    ) -> Result<(Reply, u64), DeskFault>
+        requires named { (pass.old.book ≡ N.book) × (pass.old.rooms ≡ N.rooms) }
+        ensures answer { IfOk result (λ r. IsAnsweredOn N.rooms policy.now day who.now request.now pass.old.entries r.0 r.1 pass.new.entries self.old.book.entries) }
+        ensures entries { IfOk result (λ r. self.new.book ≡ answered self.old.book r.0) }
+        ensures date { IfOk result (λ r. ReplyHasDate r.0) }
+        ensures fault { IfErr result (λ fault. IsLeftAt (entered_by fault) (decision (register_after N.rooms self.old.book.entries) policy.now day who.now request.now) self.old.book.entries self.new.book.entries) }
+        ensures entered { IfErr result (λ fault. IsEntered N.rooms policy.now day who.now request.now pass.old.entries (entered_by fault)) }
+        ensures published { is_shut result ≡ true → self.new.book.published ≡ self.new.book.entries }
+        ensures seen { IsPrefix pass.old.entries pass.new.entries }
+        ensures legal { IsLegal pass.new.rooms pass.new.entries }
+        ensures shut { is_shut result ≡ true → pass.new.shuts ≡ raised pass.old.shuts }
+        ensures open { is_shut result ≡ false → pass.new.shuts ≡ pass.old.shuts }
+        ensures same { (pass.new.book ≡ pass.old.book) × (pass.new.rooms ≡ pass.old.rooms) }
+    {
+        // What every board keeps, and a law, for the date of a reply.
+        self.book.head().is_whole();
+        replies_have_dates();
+        match settle_for(&mut self.book, rt, pass) {
+            Ok(()) => {}
+            Err(fault) => return Err(fault),
+        }
+        match self.book.submit(rt, policy, day, who, request) {
+            Ok((reply, told)) => {
+                let number = told.entries();
+                match pass.learn(told) {
+                    Ok(()) => Ok((reply, number)),
+                    Err(Shut) => Err(DeskFault::Shut {
+                        entered: entered(&reply, number),
+                    }),
+                }
+            }
+            Err(SubmitFault::NoMemory { entered }) => Err(DeskFault::NoMemory { entered }),
+        }
+    }
+
+    pub(crate) fn into_book(self) -> Book
+        ensures named { (result.book ≡ N.book) × (result.rooms ≡ N.rooms) }
+    {
+        let Locked { book, rt: _, of: _ } = self;
+        book
+    }
+}
+
+/// The number of the entry, where the request was accepted.
+fn entered(reply: &Reply, number: u64) -> Option<u64>
+    ensures { result ≡ number_of reply.now number }
+{
+    match reply {
+        Reply::Accepted(_) => Some(number),
+        Reply::Refused(_) => None,
+    }
+}

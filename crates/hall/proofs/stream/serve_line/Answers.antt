@@ -1,0 +1,54 @@
+use Rattle.std.proofs.Common.{◌≡◌, ◌∙◌, ℕ, List, Ok, Err, refl, sym, ap, subst}
+use Rattle.std.specs.Io.KnownBytes.{Appends, Consumes}
+use Rattle.hall.specs.Stream.{asked_in, HasTold}
+use Rattle.board.specs.declared.lens.Answer.{Answer}
+use Rattle.hall.proofs.Lines.{fault_told, stream_told}
+use Rattle.hall.proofs.stream.serve_line.Goals as goal
+
+pub returns-in-Err-clause-line : goal.returns-in-Err-clause-line
+returns-in-Err-clause-line g c = (
+  c.receive_line.new.bytes.items,
+  record {
+    taken = c.receive_line.ensures.taken;
+    left = c.receive_line.ensures.left;
+    short = c.receive_line.ensures.short;
+    ends = record { unseen = refl; number_is = refl; silent = c.receive_line.ensures.written };
+  },
+)
+
+pub returns-in-Err-read_asked-clause-line : goal.returns-in-Err-read_asked-clause-line
+returns-in-Err-read_asked-clause-line g c =
+    let came : List ℕ = c.receive_line.new.bytes.items in
+    let asks : asked_in c.args.registry.now came ≡ Err c.in-Err-read_asked.fault =
+    sym (c.read_asked.ensures ∙ ap (asked_in c.args.registry.now) c.as_slice.ensures.value) ∙ c.in-Err-read_asked.is in (
+      came,
+      record {
+        taken = subst (λ t. Appends (g.L.Source.taken c.args.link.now) t came) (sym c.tell.ensures.taken) c.receive_line.ensures.taken;
+        left = subst (λ l. Consumes (g.L.Source.left c.args.link.now) l came) (sym c.tell.ensures.left) c.receive_line.ensures.left;
+        short = c.receive_line.ensures.short;
+        ends = fault_told c.args.registry.now c.args.pass.now (g.L.Sink.written c.args.link.now) (g.L.Sink.written c.tell.new.link) c.tell.result
+            (g.L.Source.has_ended c.receive_line.new.link) (g.L.Source.has_ended c.tell.new.link) came c.error_line.result.now c.in-Err-read_asked.fault
+            c.tell.ensures.end c.in-Ok.ensures.settled asks c.error_line.ensures
+            (subst (λ w. HasTold c.tell.result w c.error_line.result.now (g.L.Sink.written c.tell.new.link)) c.receive_line.ensures.written
+            c.tell.ensures.told);
+      },
+    )
+
+pub returns-in-Ok-look-clause-line : goal.returns-in-Ok-look-clause-line
+returns-in-Ok-look-clause-line g c =
+    let came : List ℕ = c.receive_line.new.bytes.items in
+    let tell = c.tell-in-Ok-look in
+    let asks : asked_in c.args.registry.now came ≡ Ok c.in-Ok-read_asked.ask =
+    sym (c.read_asked.ensures ∙ ap (asked_in c.args.registry.now) c.as_slice.ensures.value) ∙ c.in-Ok-read_asked.is in (
+      came,
+      record {
+        taken = subst (λ t. Appends (g.L.Source.taken c.args.link.now) t came) (sym tell.ensures.taken) c.receive_line.ensures.taken;
+        left = subst (λ l. Consumes (g.L.Source.left c.args.link.now) l came) (sym tell.ensures.left) c.receive_line.ensures.left;
+        short = c.receive_line.ensures.short;
+        ends = stream_told c.args.registry.now c.args.pass.now c.look.new.self (g.L.Sink.written c.args.link.now) (g.L.Sink.written tell.new.link)
+            tell.result c.in-Ok-look.answer.entries (g.L.Source.has_ended c.receive_line.new.link) (g.L.Source.has_ended tell.new.link) came
+            c.bytes.result.now c.in-Ok-read_asked.ask tell.ensures.end c.in-Ok.ensures.settled asks c.in-Ok-look.ensures.entries
+            (c.bytes.ensures ∙ ap (λ (a : Answer). a.body) c.in-Ok-look.ensures.answer)
+            (subst (λ w. HasTold tell.result w c.bytes.result.now (g.L.Sink.written tell.new.link)) c.receive_line.ensures.written tell.ensures.told);
+      },
+    )
