@@ -70,6 +70,8 @@ impl Source for FailingSource<'_> {
 
     ghost faults = { λ s. s.faults };
 
+    ghost nothing_left = { λ s ended. ended };
+
     fn read(&mut self, buf: &mut [u8]) -> Result<usize, Failed>
         requires { 0 < length buf.old }
         ensures count { ReadsAtMost result buf.new }

@@ -8,7 +8,8 @@ use crate::way::Way;
 
 /// Where ways come from, and where they go back.
 pub trait Gate {
-    type W: Way;
+    // They move to the threads of workers.
+    type W: Way + Send;
 
     ghost use Rattle.link_face.specs.declared.door.Door.{Door};
 

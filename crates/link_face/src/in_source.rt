@@ -1,6 +1,6 @@
 ghost use Rattle.std.specs.Prelude.{◌≡◌, ◌<◌, ◌^◌, false, true, None, Ok, length, IfOk};
 ghost use Rattle.std.specs.Io.{ReadsAtMost};
-ghost use Rattle.std.specs.Io.KnownBytes.{ReadConsumes};
+ghost use Rattle.std.specs.Io.KnownBytes.{ReadConsumes, IsAtEnd};
 ghost use Rattle.link_face.specs.Bytes.{ReadAppends, Spends};
 ghost use Rattle.link_face.specs.Faults.{HasCause};
 
@@ -90,6 +90,7 @@ fn read_uninterrupted<R: Read>(reader: &mut R, buf: &mut [u8]) -> Result<usize, 
 
 impl<R: Read> Source for InSource<R> {
     ghost use Rattle.std.specs.Prelude.{◌≡◌, None, true};
+    ghost use Rattle.std.specs.Io.KnownBytes.{IsAtEnd};
 
     ghost taken = { λ _. None };
 
@@ -97,9 +98,11 @@ impl<R: Read> Source for InSource<R> {
 
     ghost budget = { λ s. s.budget };
 
-    ghost has_ended = { λ s. s.has_ended ≡ true };
+    ghost has_ended = { λ s. (s.has_ended ≡ true) × IsAtEnd s.left };
 
     ghost faults = { λ s. s.faults };
+
+    ghost nothing_left = { λ s ended. ended.1 };
 
     fn read(&mut self, buf: &mut [u8]) -> Result<usize, Failed>
         requires { 0 < length buf.old }
@@ -108,9 +111,9 @@ impl<R: Read> Source for InSource<R> {
         ensures taken { ReadAppends None None result buf.new }
         ensures budget { Spends self.old.budget self.new.budget result }
         ensures bounded { self.old.budget < 2 ^ 64 }
-        ensures end { IfOk result (λ n. n ≡ 0 → self.new.has_ended ≡ true) }
-        ensures for_good { self.old.has_ended ≡ true →
-            (self.new.has_ended ≡ true) × IfOk result (λ n. n ≡ 0) }
+        ensures end { IfOk result (λ n. n ≡ 0 → (self.new.has_ended ≡ true) × IsAtEnd self.new.left) }
+        ensures for_good { (self.old.has_ended ≡ true) × IsAtEnd self.old.left →
+            ((self.new.has_ended ≡ true) × IsAtEnd self.new.left) × IfOk result (λ n. n ≡ 0) }
         ensures cause { HasCause self.old.faults self.new.faults result }
 
         // Once the end was told it is told again, while there is budget, and the reader isn't asked.

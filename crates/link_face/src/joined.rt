@@ -38,6 +38,8 @@ impl<S: Source + Drop, K: Sink + Drop> Source for Joined<S, K> {
 
     ghost read_keeps = { λ old new. new.sink ≡ old.sink };
 
+    ghost nothing_left = { λ l ended. S.nothing_left l.source ended };
+
     fn read(&mut self, buf: &mut [u8]) -> Result<usize, Failed> {
         self.source.read(buf)
     }

@@ -75,6 +75,8 @@ impl Source for MemSource<'_> {
 
     ghost faults = { λ _. 0 };
 
+    ghost nothing_left = { λ s ended. ended };
+
     fn read(&mut self, buf: &mut [u8]) -> Result<usize, Failed> {
         let left = &self.bytes[self.at..];
         let count = left.len().min(buf.len()).min(self.piece);

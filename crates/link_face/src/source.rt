@@ -1,6 +1,6 @@
 ghost use Rattle.std.specs.Prelude.{ℕ, List, Option, ⊤, ◌≡◌, ◌<◌, ◌^◌, length, IfOk};
 ghost use Rattle.std.specs.Io.{ReadsAtMost};
-ghost use Rattle.std.specs.Io.KnownBytes.{ReadConsumes};
+ghost use Rattle.std.specs.Io.KnownBytes.{ReadConsumes, IsAtEnd};
 ghost use Rattle.link_face.specs.Bytes.{ReadAppends, Spends};
 ghost use Rattle.link_face.specs.Faults.{HasCause};
 
@@ -47,4 +47,7 @@ pub trait Source {
 
         ensures cause { HasCause (faults self.old) (faults self.new) result }
         ensures keeps { read_keeps self.old self.new };
+
+    // at its end nothing is left
+    ghost nothing_left: { (x : Self) → has_ended x → IsAtEnd (left x) };
 }

@@ -5,8 +5,8 @@ ghost use Rattle.link_face.specs.Faults.{HasCause};
 use crate::failed::Failed;
 use crate::link::Link;
 
-/// The links that one worker serves, one after another. It moves to the worker's thread.
-pub trait Way: Send + Drop {
+/// The links that one worker serves, one after another.
+pub trait Way: Drop {
     type L: Link + Drop;
 
     ghost use Rattle.link_face.specs.declared.door.Door.{Door};

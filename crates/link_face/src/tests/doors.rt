@@ -20,7 +20,7 @@ struct Echoes<W: Way> {
     way: W,
 }
 
-impl<W: Way> Duty for Echoes<W> {
+impl<W: Way + Send> Duty for Echoes<W> {
     ghost use Rattle.std.specs.Prelude.{◌≡◌};
 
     // The way.

@@ -1,0 +1,32 @@
+//! Serving a way.
+ghost use Rattle.door_duty.specs.Along.{HasServedWay, plain_way};
+
+use crate::service::Service;
+use link_face::{Failed, Way};
+use std::sync::Wait;
+
+/// Serves each link that the way gives, and gives it back, until there are no more or the way fails. It says how many there
+/// were, up to the greatest number of the type, at which the count stays.
+pub(crate) fn serve_way<R: Wait, W: Way, S: Service<W::L>>(
+    rt: &R,
+    way: &mut W,
+    service: &mut S,
+) -> u64
+    ensures { HasServedWay (S.serves service.old) (S.pass service.old)
+        (plain_way (W.door way.old) (W.port way.old) (W.links_left way.old) (W.lent way.old) (W.returned way.old) (W.faults way.old))
+        result
+        (plain_way (W.door way.new) (W.port way.new) (W.links_left way.new) (W.lent way.new) (W.returned way.new) (W.faults way.new))
+        (S.pass service.new) }
+{
+    let mut connections: u64 = 0;
+    for _ in rt.forever() {
+        let mut link = match way.accept() {
+            Ok(Some(link)) => link,
+            Ok(None) | Err(Failed) => return connections,
+        };
+        service.serve(rt, &mut link);
+        way.done(link);
+        connections = connections.saturating_add(1);
+    }
+    unreachable!()
+}
