@@ -1,11 +1,11 @@
 //! A line of an object's text by itself.
-ghost use Rattle.std.specs.Prelude.{◌≡◌, ◌==◌, ◌<◌, ◌≤◌, ◌++◌, ◌∷◌, [], take, drop, length, map, MatchOption, OnOk};
+ghost use Rattle.std.specs.Prelude.{◌≡◌, ◌==◌, ◌<◌, ◌≤◌, ◌++◌, ◌∷◌, [], false, take, drop, length, map, MatchOption, OnOk};
 ghost use Rattle.std.specs.Option.{option_map, option_copied};
 ghost use Rattle.std.specs.Char.{to_ascii_lowercase};
 ghost use Rattle.std.specs.List.{list_all, position};
 ghost use Rattle.std.specs.Str.Lines.{lines, strip_carriage_return};
 ghost use Rattle.rpsl_text.specs.Lines.{is_blank, before_comment, words, with_word, continued, is_name_byte, is_name, continuation_of, name_and_rest};
-ghost use Rattle.rpsl_text.specs.Words.{BeginsWithWord};
+ghost use Rattle.rpsl_text.specs.Words.{BeginsWithWord, is_spaced, spaced_value};
 
 use addr_text::parted_at;
 use std::alloc::AllocError;
@@ -148,9 +148,10 @@ pub fn next_word(text: &[u8]) -> Option<(&[u8], &[u8])>
 pub(crate) fn append_name(name: &[u8], bytes: &mut Vec<u8>) -> Result<(), AllocError>
     ensures { OnOk result (bytes.new.items ≡ bytes.old.items ++ map to_ascii_lowercase name.now) }
 {
-    for b in name {
-        bytes.push(b.to_ascii_lowercase())?;
-    }
+    let start = bytes.len();
+    bytes.extend_from_slice(name)?;
+    let appended = &mut bytes.as_mut_slice()[start..];
+    appended.make_ascii_lowercase();
     Ok(())
 }
 
@@ -168,8 +169,33 @@ fn append_word(word: &[u8], start: usize, bytes: &mut Vec<u8>) -> Result<(), All
     Ok(())
 }
 
-/// The value that begins at this place, and is last, goes on with the text.
-pub(crate) fn append_value(text: &[u8], start: usize, bytes: &mut Vec<u8>) -> Result<(), AllocError>
+/// Whether the text has words, single blanks between them, none at its ends, and no comment.
+fn is_spaced(text: &[u8]) -> bool
+    ensures { result ≡ is_spaced false text.now }
+{
+    let mut inside = false;
+    for b in text {
+        inside = match *b {
+            b' ' if inside => false,
+            b' ' | b'\t' | b'#' => return false,
+            _ => true,
+        };
+    }
+    inside
+}
+
+/// What stands behind one blank as values are written, so that its words can be copied at once.
+fn spaced_value(text: &[u8]) -> Option<&[u8]>
+    ensures { option_copied result ≡ spaced_value text.now }
+{
+    match text {
+        [b' ', value @ ..] if is_spaced(value) => Some(value),
+        _ => None,
+    }
+}
+
+/// The value that begins at this place, and is last, goes on with the words of the text.
+fn append_words(text: &[u8], start: usize, bytes: &mut Vec<u8>) -> Result<(), AllocError>
     requires { start ≤ length bytes.old.items }
     ensures front { OnOk result (take start bytes.new.items ≡ take start bytes.old.items) }
     ensures value { OnOk result (drop start bytes.new.items ≡ continued (drop start bytes.old.items) text.now) }
@@ -181,4 +207,17 @@ pub(crate) fn append_value(text: &[u8], start: usize, bytes: &mut Vec<u8>) -> Re
         left = rest;
     }
     Ok(())
+}
+
+/// The value that begins at this place, and is last, goes on with the text.
+pub(crate) fn append_value(text: &[u8], start: usize, bytes: &mut Vec<u8>) -> Result<(), AllocError>
+    requires { start ≤ length bytes.old.items }
+    ensures front { OnOk result (take start bytes.new.items ≡ take start bytes.old.items) }
+    ensures value { OnOk result (drop start bytes.new.items ≡ continued (drop start bytes.old.items) text.now) }
+    ensures start { OnOk result (start ≤ length bytes.new.items) }
+{
+    match spaced_value(text) {
+        Some(value) => append_word(value, start, bytes),
+        None => append_words(text, start, bytes),
+    }
 }

@@ -16,7 +16,23 @@ struct Draft {
     spans: Vec<Span>,
 }
 
+/// How many attributes an object of the register has at most, but for holders, and how many bytes they mostly have.
+const ROOM: usize = 6;
+const ROOM_BYTES: usize = 96;
+
 impl Draft {
+    /// Has room for most objects at once, so that their memory doesn't grow line by line.
+    fn make_room(&mut self) -> Result<(), AllocError>
+        ensures bytes { self.new.bytes.items ≡ self.old.bytes.items }
+        ensures spans { self.new.spans.items ≡ self.old.spans.items }
+    {
+        if self.spans.is_empty() {
+            self.bytes.reserve(ROOM_BYTES)?;
+            self.spans.reserve(ROOM)?;
+        }
+        Ok(())
+    }
+
     /// An attribute begins.
     fn begin(&mut self, name: &[u8], text: &[u8]) -> Result<(), AllocError>
         requires { AreSpansOf self.old.bytes.items self.old.spans.items }
@@ -80,6 +96,7 @@ impl Attrs {
             bytes: self.bytes,
             spans: self.spans,
         };
+        draft.make_room()?;
         draft.take_line(line, number)?;
         Ok(Attrs {
             bytes: draft.bytes,

@@ -1,6 +1,6 @@
 use Rattle.std.proofs.Common.{◌≡◌, ◌≤◌, length, take, drop}
 use Rattle.rpsl_text.specs.Lines.{words, with_words, continued}
-use Rattle.rpsl_text.proofs.lines.append_value.Given as goal
+use Rattle.rpsl_text.proofs.lines.append_words.Given as goal
 
 abbrev pub invariant-words : goal.invariant-words
 invariant-words l = record {
