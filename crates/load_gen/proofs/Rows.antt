@@ -1,5 +1,5 @@
 -- The definitions tried on values that were worked out apart from the program: each computes.
-use Rattle.std.proofs.Common.{◌≡◌, ℕ, ◌+◌, ◌-◌, ◌*◌, ◌^◌, length, map, List, [], ◌∷◌, Some, refl}
+use Rattle.std.proofs.Common.{◌≡◌, ◌+◌, ◌-◌, ◌*◌, ◌^◌, length, map, [], ◌∷◌, Some, refl}
 use Rattle.std.specs.Prelude.{codes, slice_get}
 use Rattle.std.specs.Fmt.{digits}
 use Rattle.num_range.specs.declared.space.Space.TheVariants.{Asn, Ipv4, Ipv6}

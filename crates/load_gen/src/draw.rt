@@ -1,6 +1,6 @@
-ghost use Rattle.std.specs.Prelude.{◌≡◌, ◌<◌, ◌^◌, ◌*◌, ◌+◌};
+ghost use Rattle.std.specs.Prelude.{◌≡◌, ◌<◌, ◌^◌};
 ghost use Rattle.reg_entry.specs.Request.{IsSizedRequest};
-ghost use Rattle.load_gen.specs.Draw.{asking, kind, rest, draw_day, drawn_address};
+ghost use Rattle.load_gen.specs.Draw.{high_bits, asking, kind, rest, draw_day, drawn_address};
 ghost use Rattle.load_gen.specs.Drawn.{drawn_request};
 
 use crate::holders::handle;
@@ -36,12 +36,20 @@ impl Draw {
         Draw { place, number }
     }
 
+    /// The bits of the number above its lowest 33.
+    fn high_bits(&self) -> u64
+        ensures bits { result ≡ high_bits self.now }
+        ensures few { result < 2 ^ 31 }
+    {
+        self.number / (1 << 33)
+    }
+
     /// Which holder asks, from 0 to 7.
     fn asking(&self) -> u8
         ensures asking { result ≡ asking self.now }
         ensures few { result < 8 }
     {
-        (self.number / (1 << 33) % 8) as u8
+        (self.high_bits() % 8) as u8
     }
 
     /// What is asked for, from 0 to 7.
@@ -49,14 +57,14 @@ impl Draw {
         ensures kind { result ≡ kind self.now }
         ensures few { result < 8 }
     {
-        (self.number / (1 << 33) / 8 % 8) as u8
+        (self.high_bits() / 8 % 8) as u8
     }
 
     /// What is left of the number.
     fn rest(&self) -> u32
         ensures { result ≡ rest self.now }
     {
-        (self.number / (1 << 33) / 64) as u32
+        (self.high_bits() / 64) as u32
     }
 
     /// The day on which it is asked, counted from 1970-01-01.

@@ -4,6 +4,7 @@
 mod draw;
 mod draws;
 mod holders;
+pub mod laws;
 mod opening;
 #[cfg(test)]
 mod tests;
