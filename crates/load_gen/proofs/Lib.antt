@@ -1,2 +1,3 @@
 mod Rows
+mod LoadRows
 pub mod Wraps

@@ -4,3 +4,4 @@ pub mod Draws
 pub mod Holders
 pub mod Drawn
 pub mod Opening
+pub mod Load

@@ -5,7 +5,7 @@ ghost use Rattle.reg_entry.specs.Entry.{PlainEntry};
 ghost use Rattle.reg_entry.specs.Policy.{PlainPolicy, IsPolicy};
 ghost use Rattle.reg_laws.specs.Reached.{IsReached};
 ghost use Rattle.board.specs.Conserved.{IsConservedBy};
-ghost use Rattle.load_run.specs.Load.{after_draws};
+ghost use Rattle.load_gen.specs.Load.{loaded};
 
 use reg_laws::next::accepted_may_come_next;
 use reg_laws::reached::{
@@ -15,8 +15,8 @@ use reg_laws::reached::{
 
 /// Under each policy the register of a load is that of a legal list of entries.
 pub fn loads_are_legal()
-    ensures { (rooms : Rooms) (p : PlainPolicy) (seed count : ℕ) → IsPolicy p
-        → IsReached (after_draws rooms p seed count).register }
+    ensures { (rooms : Rooms) (p : PlainPolicy) (who : List ℕ) (seed count : ℕ) → IsPolicy p
+        → IsReached (loaded rooms p who seed count).register }
 {
     entries_reach_registers();
     reached_registers_are_whole();
@@ -25,8 +25,8 @@ pub fn loads_are_legal()
 
 /// It loses none of their numbers and holds none twice.
 pub fn loads_conserve()
-    ensures { (rooms : Rooms) (p : PlainPolicy) (seed count : ℕ) → IsPolicy p
-        → (es : List PlainEntry) × IsConservedBy (after_draws rooms p seed count).register es }
+    ensures { (rooms : Rooms) (p : PlainPolicy) (who : List ℕ) (seed count : ℕ) → IsPolicy p
+        → (es : List PlainEntry) × IsConservedBy (loaded rooms p who seed count).register es }
 {
     loads_are_legal();
     reached_registers_conserve();

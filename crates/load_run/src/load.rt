@@ -1,45 +1,48 @@
 //! The register of a load.
-ghost use Rattle.std.specs.Prelude.{◌≡◌, ◌≤◌, ◌<◌, ◌+◌, ◌-◌, ◌^◌, IfOk};
-ghost use Rattle.reg_entry.specs.declared.entry.Reply.TheVariants.{Accepted};
-ghost use Rattle.reg_entry.specs.Decision.{decision, IfAccepted};
+ghost use Rattle.std.specs.Prelude.{◌≡◌, ◌≤◌, ◌<◌, ◌+◌, ◌^◌, IfOk};
+ghost use Rattle.reg_entry.specs.Decision.{IfAccepted};
 ghost use Rattle.reg_entry.specs.Next.{IsNextEntry};
-ghost use Rattle.reg_entry.specs.Register.{piece_of};
 ghost use Rattle.reg_entry.specs.Rooms.{AreRooms};
-ghost use Rattle.load_run.specs.Load.{empty_load, after_reply, after_request, range_round, after_draw, after_draws, opened};
+ghost use Rattle.policy_table.specs.Policy.{first_name};
+ghost use Rattle.load_gen.specs.Load.{new_load, after_reply, after_request, after_requests, drawn_piece, after_draw, loaded};
+ghost use Rattle.load_gen.specs.Opening.{opening_requests};
 
 use board::Board;
 use load_gen::{Draw, Draws, FIRST_DAY, OPENING_REQUESTS, opening_request};
-use num_range::{Number, Range};
+use num_range::Range;
 use policy_table::Policy;
 use reg_entry::{Reply, Request, Rooms};
 use request_core::decide;
 use std::alloc::{AllocError, Global};
 use std::marker::Model;
 
-/// A load under way. Making one takes memory, and nothing after that does.
+/// A load under way, for the first hostmaster of a policy. Making one takes memory, and nothing after that does.
 #[derive(Drop)]
-pub(crate) struct Load {
+pub(crate) struct Load<'a> {
     board: Board,
     refused: u64,
+    policy: &'a Policy,
 }
 
-impl Model for Load {
-    ghost use Rattle.load_run.specs.Load.{PlainLoad};
+impl<'a> Model for Load<'a> {
+    ghost use Rattle.policy_table.specs.Policy.{first_name};
+    ghost use Rattle.load_gen.specs.Load.{PlainLoad};
 
     ghost Value = { PlainLoad };
 
-    ghost view = { λ l. record { register = l.board.register; refused = l.refused } };
+    ghost view = { λ l. record { register = l.board.register; refused = l.refused; policy = l.policy.now; who = first_name l.policy.now.hostmasters } };
 }
 
-impl Load {
-    /// A load over the empty register.
-    fn with_room(alloc: Global, rooms: Rooms) -> Result<Load, AllocError>
+impl<'a> Load<'a> {
+    /// A load of which nothing is asked yet.
+    fn new(alloc: Global, rooms: Rooms, policy: &'a Policy) -> Result<Load<'a>, AllocError>
         requires { AreRooms rooms }
-        ensures { IfOk result (λ load. load ≡ empty_load rooms) }
+        ensures { IfOk result (λ load. load ≡ new_load rooms policy.now (first_name policy.now.hostmasters)) }
     {
         Ok(Load {
             board: Board::with_room(alloc, rooms)?,
             refused: 0,
+            policy,
         })
     }
 
@@ -47,7 +50,8 @@ impl Load {
     fn take(&mut self, reply: &Reply)
         requires next { IfAccepted reply.now (IsNextEntry self.old.register) }
         requires few { self.old.refused + 1 < 2 ^ 64 }
-        ensures { self.new ≡ after_reply self.old reply.now }
+        ensures load { self.new ≡ after_reply self.old reply.now }
+        ensures few { self.new.refused ≤ self.old.refused + 1 }
     {
         match reply {
             Reply::Accepted(entry) => self.board.apply(entry),
@@ -55,34 +59,34 @@ impl Load {
         }
     }
 
-    /// Has the policy's first hostmaster ask on the day.
-    fn ask(&mut self, policy: &Policy, day: u32, request: &Request)
+    /// Asks on the day.
+    fn ask(&mut self, day: u32, request: &Request)
         requires few { self.old.refused + 1 < 2 ^ 64 }
-        ensures load { self.new ≡ after_request policy.now day self.old request.now }
+        ensures load { self.new ≡ after_request self.old day request.now }
         ensures few { self.new.refused ≤ self.old.refused + 1 }
     {
-        let reply = decide(&self.board, policy, day, policy.first_hostmaster(), request);
+        let who = self.policy.first_hostmaster();
+        let reply = decide(&self.board, self.policy, day, who, request);
         self.take(&reply);
     }
 
-    /// The range of the piece that holds the number.
-    fn range_round(&self, n: Number) -> Range
-        ensures { result ≡ range_round n (piece_of self.now.register.pool n) }
+    /// The range of the piece whose numbers a draw may name.
+    fn piece_of(&self, draw: &Draw) -> Option<Range>
+        ensures { result ≡ drawn_piece self.now.register draw.now }
     {
-        match self.board.pieces().piece_at(n) {
-            Some(piece) => piece.range,
-            None => Range::between(n.space(), n.value(), n.value()),
-        }
+        let piece = self.board.pieces().piece_at(draw.at())?;
+        Some(piece.range)
     }
 
     /// Asks what is drawn.
-    fn draw(&mut self, policy: &Policy, draw: &Draw)
+    fn draw(&mut self, draw: &Draw)
         requires few { self.old.refused + 1 < 2 ^ 64 }
-        ensures load { self.new ≡ after_draw policy.now self.old draw.now }
+        ensures load { self.new ≡ after_draw self.old draw.now }
         ensures few { self.new.refused ≤ self.old.refused + 1 }
     {
-        let range = self.range_round(draw.at());
-        self.ask(policy, draw.day(), &draw.request(range));
+        if let Some(piece) = self.piece_of(draw) {
+            self.ask(draw.day(), &draw.request(piece));
+        }
     }
 
     /// The register.
@@ -101,14 +105,14 @@ impl Load {
 }
 
 /// The load after the requests with which every one begins.
-fn open(alloc: Global, rooms: Rooms, policy: &Policy) -> Result<Load, AllocError>
+fn open(alloc: Global, rooms: Rooms, policy: &Policy) -> Result<Load<'_>, AllocError>
     requires { AreRooms rooms }
-    ensures load { IfOk result (λ load. load ≡ opened rooms policy.now) }
+    ensures load { IfOk result (λ load. load ≡ after_requests (new_load rooms policy.now (first_name policy.now.hostmasters)) opening_requests) }
     ensures few { IfOk result (λ load. load.refused ≤ 11) }
 {
-    let mut load = Load::with_room(alloc, rooms)?;
+    let mut load = Load::new(alloc, rooms, policy)?;
     for i in 0..OPENING_REQUESTS {
-        load.ask(policy, FIRST_DAY, &opening_request(i));
+        load.ask(FIRST_DAY, &opening_request(i));
     }
     Ok(load)
 }
@@ -120,15 +124,14 @@ pub(crate) fn load_of(
     policy: &Policy,
     seed: u64,
     count: u32,
-) -> Result<Load, AllocError>
+) -> Result<Load<'_>, AllocError>
     requires { AreRooms rooms }
-    ensures { IfOk result (λ load. load ≡ after_draws rooms policy.now seed count) }
+    ensures { IfOk result (λ load. load ≡ loaded rooms policy.now (first_name policy.now.hostmasters) seed count) }
 {
     let mut load = open(alloc, rooms, policy)?;
     let mut draws = Draws::new(seed);
     for _ in 0..count {
-        let draw = draws.next();
-        load.draw(policy, &draw);
+        load.draw(&draws.next());
     }
     Ok(load)
 }

@@ -2,8 +2,8 @@
 ghost use Rattle.std.specs.Prelude.{◌≡◌, ◌≤◌, ◌<◌, ◌++◌, ◌^◌, ◌-◌, length, decimal, IfOk, OnOk};
 ghost use Rattle.reg_entry.specs.Partition.{piece_count};
 ghost use Rattle.reg_entry.specs.Rooms.{AreRooms};
-ghost use Rattle.desk_text.specs.Vocabulary.{space_word};
-ghost use Rattle.load_run.specs.Summary.{count_line, sum_text, space_line, summary_text, load_text};
+ghost use Rattle.policy_table.specs.Policy.{first_name};
+ghost use Rattle.load_gen.specs.Load.{count_line, space_name, space_line, summary_text, load_text};
 
 use crate::load::{Load, load_of};
 use board::{Board, Body};
@@ -38,8 +38,8 @@ fn append_count(word: &[u8], n: u64, body: &mut Body) -> Result<(), AllocError>
     body.append(b"\n")
 }
 
-fn space_word(space: Space) -> &'static [u8]
-    ensures { result.now ≡ space_word space }
+fn space_name(space: Space) -> &'static [u8]
+    ensures { result.now ≡ space_name space }
 {
     match space {
         Space::Asn => b"asn",
@@ -62,7 +62,7 @@ fn count_pieces(pieces: &PieceBook) -> u64
 fn append_space(board: &Board, space: Space, body: &mut Body) -> Result<(), AllocError>
     ensures { OnOk result (body.new ≡ body.old ++ space_line board.now.register space) }
 {
-    body.append(space_word(space))?;
+    body.append(space_name(space))?;
     for status in STATUSES {
         body.append(b" ")?;
         append_decimal(board.pieces().sum(space, status), body)?;
@@ -71,16 +71,17 @@ fn append_space(board: &Board, space: Space, body: &mut Body) -> Result<(), Allo
 }
 
 /// Appends the summary.
-fn append_summary(load: &Load, body: &mut Body) -> Result<(), AllocError>
+fn append_summary(load: &Load<'_>, body: &mut Body) -> Result<(), AllocError>
     ensures { OnOk result (body.new ≡ body.old ++ summary_text load.now) }
 {
     let board = load.board();
     append_count(b"entries", board.entries(), body)?;
     append_count(b"refused", load.refused(), body)?;
     append_count(b"pieces", count_pieces(board.pieces()), body)?;
-    append_space(board, Space::Asn, body)?;
-    append_space(board, Space::Ipv4, body)?;
-    append_space(board, Space::Ipv6, body)
+    for space in [Space::Asn, Space::Ipv4, Space::Ipv6] {
+        append_space(board, space, body)?;
+    }
+    Ok(())
 }
 
 /// The summary of a load: the requests with which every one begins, and then so many draws of the seed, asked of a register
@@ -93,7 +94,7 @@ pub fn write_load(
     count: u32,
 ) -> Result<Body, AllocError>
     requires { AreRooms rooms }
-    ensures { IfOk result (λ body. body ≡ load_text rooms policy.now seed count) }
+    ensures { IfOk result (λ body. body ≡ load_text rooms policy.now (first_name policy.now.hostmasters) seed count) }
 {
     let load = load_of(alloc, rooms, policy, seed, count)?;
     let mut body = Body::new(alloc);
