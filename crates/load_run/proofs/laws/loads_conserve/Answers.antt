@@ -1,11 +1,11 @@
 use Rattle.reg_entry.specs.Register.{Register}
-use Rattle.load_run.specs.Load.{after_draws}
+use Rattle.load_gen.specs.Load.{loaded}
 use Rattle.load_run.proofs.laws.loads_conserve.Goals as goal
 
 pub returns : goal.returns
-returns c rooms p seed count policy =
-    let r : Register = (after_draws rooms p seed count).register in
-    let reached = c.loads_are_legal.ensures rooms p seed count policy in
+returns c rooms p who seed count policy =
+    let r : Register = (loaded rooms p who seed count).register in
+    let reached = c.loads_are_legal.ensures rooms p who seed count policy in
     let es = reached.0 in
     let of = reached.1 in
     let conserve = c.reached_registers_conserve.ensures in
