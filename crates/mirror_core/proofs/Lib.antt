@@ -8,3 +8,4 @@ pub mod Serials
 pub mod Attributes
 pub mod Feeding
 pub mod Holding
+pub mod LineEnds

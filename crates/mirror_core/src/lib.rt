@@ -6,6 +6,7 @@ mod fault;
 mod framing;
 mod keys;
 pub mod laws;
+mod line_ends;
 mod mirror;
 mod names;
 mod object_lines;

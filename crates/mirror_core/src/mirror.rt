@@ -7,9 +7,9 @@ ghost use Rattle.mirror_core.specs.Line.{is_too_long, long_fault};
 ghost use Rattle.mirror_core.specs.Fed.{IsFed, IsStill, holding};
 
 use crate::FeedFault;
+use crate::line_ends::first_line;
 use crate::objects::Objects;
 use crate::replica::Replica;
-use addr_text::parted_at;
 use arrayvec::ArrayVec;
 use std::alloc::{AllocError, Global};
 use std::marker::Model;
@@ -172,7 +172,7 @@ impl Mirror {
         ensures { IsFed self.old bytes.now self.new result }
     {
         let mut left = bytes;
-        'lines: while let Some((piece, rest)) = parted_at(b'\n', left) {
+        'lines: while let Some((piece, rest)) = first_line(left) {
             if let Err(fault) = self.end_line(piece) {
                 self.pass(rest.len());
                 return Err(fault);

@@ -18,6 +18,7 @@ struct Draft {
 
 /// How many attributes an object of the register has at most, but for holders, and how many bytes they mostly have.
 const ROOM: usize = 6;
+
 const ROOM_BYTES: usize = 96;
 
 impl Draft {
