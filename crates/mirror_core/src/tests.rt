@@ -4,6 +4,8 @@ use board::Body;
 use std::alloc::{AllocError, Global};
 use std::test::Fail;
 
+mod cuts;
+
 const STREAM: &str = "%START Version: 3 EXREG 1-5
 
 ADD 1
