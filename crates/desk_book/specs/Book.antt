@@ -1,5 +1,5 @@
 -- A book as contracts see it, what it keeps, and what a submit leaves.
-use Rattle.std.specs.Prelude.{◌≡◌, ℕ, List, [], ◌∷◌, ◌++◌, Option, None, Some, length}
+use Rattle.std.specs.Prelude.{◌≡◌, ℕ, List, [], ◌∷◌, ◌++◌, ◌⊎◌, Option, None, Some, length}
 use Rattle.logbook.specs.Pages.{Book}
 use Rattle.reg_entry.specs.declared.rooms.Rooms.{Rooms}
 use Rattle.reg_entry.specs.declared.entry.Reply.{Reply}
@@ -31,6 +31,10 @@ answered b reply = record b { entries = with_reply b.entries reply; published = 
 -- a pass when the book is opened: it has seen all of the list, and was never shut
 abbrev pub first_pass : PlainBook → PlainPass
 first_pass b = record { book = b.book; rooms = b.rooms; entries = b.entries; shuts = 0 }
+
+-- all entries, or all but the last
+abbrev pub IsAllButOne : List PlainEntry → List PlainEntry → Type 0
+IsAllButOne published entries = (published ≡ entries) ⊎ ((e : PlainEntry) × (published ++ e ∷ [] ≡ entries))
 
 -- all is published, or all but the last entry, which is owed and may come next
 abbrev pub IsPublishedBut : Option PlainEntry → Rooms → List PlainEntry → List PlainEntry → Type 0

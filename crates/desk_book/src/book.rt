@@ -1,20 +1,21 @@
 //! The list of all entries, the register after them, and the press that publishes it.
-ghost use Rattle.std.specs.Prelude.{◌≡◌, ◌≤◌, ◌++◌, ◌∷◌, [], length, All, IsOk, IfOk, IfErr, IfSome, MatchResult};
+ghost use Rattle.std.specs.Prelude.{◌≡◌, ◌≤◌, ◌++◌, ◌∷◌, [], length, All, IsOk, IfOk, IfErr, OnErr, IfSome, MatchResult};
 ghost use mathlib.Core.List.{IsPrefix};
 ghost use Rattle.reg_entry.specs.Rooms.{AreRooms};
 ghost use Rattle.reg_entry.specs.Register.{register_after};
 ghost use Rattle.reg_entry.specs.declared.refusal.Refusal.{Refusal};
 ghost use Rattle.reg_entry.specs.declared.entry.Reply.TheVariants.{Accepted, Refused};
-ghost use Rattle.reg_entry.specs.Decision.{decision};
-ghost use Rattle.reg_entry.specs.Next.{IsNextEntry};
+ghost use Rattle.reg_entry.specs.Decision.{decision, IfAccepted};
+ghost use Rattle.reg_entry.specs.Next.{IsNextEntry, IsLegal};
 ghost use Rattle.reg_entry.specs.Operations.{empty_board};
 ghost use Rattle.op_feed.specs.ReachedBoard.{IsBoardOf};
-ghost use Rattle.desk_book.specs.Reply.{with_reply};
+ghost use Rattle.desk_text.specs.ReplyText.{ReplyHasDate};
 ghost use Rattle.desk_book.specs.Faults.{entered_by_submit};
-ghost use Rattle.desk_book.specs.Book.{settled, answered, first_pass, IsLeftAt};
+ghost use Rattle.desk_book.specs.Book.{settled, answered, first_pass, IsLeftAt, IsAllButOne};
 
 use crate::SubmitFault;
 use board::Board;
+use desk_text::laws::replies_have_dates;
 use op_feed::laws::{entries_reach_boards, reached_boards_are_whole};
 use policy_table::Policy;
 use reg_entry::{Entry, Name, Reply, Request, Rooms};
@@ -182,8 +183,7 @@ impl Book {
         ensures answered { IfOk result (λ told. self.new ≡ answered self.old (Accepted e.now)) }
         ensures told { IfOk result (λ told. (told.book ≡ self.old.book) × (told.entries ≡ self.old.entries ++ e.now ∷ [])) }
         ensures fault { IfErr result (λ fault. IsLeftAt (entered_by_submit fault) (Accepted e.now) self.old.entries self.new.entries) }
-        ensures owed { IfErr result (λ fault. IfSome (entered_by_submit fault) (λ number. self.new.published ≡ self.old.entries)) }
-        ensures published { IsPrefix self.old.published self.new.published }
+        ensures owed { OnErr result (self.new.published ≡ self.old.published) }
         ensures same { (self.new.book ≡ self.old.book) × (self.new.rooms ≡ self.old.rooms) }
     {
         // Laws: the board after the entry is that of the list with it.
@@ -217,17 +217,20 @@ impl Book {
         ensures reply { IfOk result (λ r. r.0 ≡ decision (register_after self.old.rooms self.old.entries) policy.now day who.now request.now) }
         ensures answered { IfOk result (λ r. self.new ≡ answered self.old r.0) }
         ensures told { IfOk result (λ r. (r.1.book ≡ self.new.book) × (r.1.entries ≡ self.new.entries)) }
+        ensures date { IfOk result (λ r. ReplyHasDate r.0) }
         ensures fault { IfErr result (λ fault. IsLeftAt (entered_by_submit fault) (decision (register_after self.old.rooms self.old.entries) policy.now day who.now request.now) self.old.entries self.new.entries) }
         ensures owed { IfErr result (λ fault. IfSome (entered_by_submit fault) (λ number. self.new.published ≡ self.old.entries)) }
         ensures refused { (refusal : Refusal) → self.old.published ≡ self.old.entries → decision (register_after self.old.rooms self.old.entries) policy.now day who.now request.now ≡ Refused refusal → IsOk result }
         ensures published { IsPrefix self.old.published self.new.published }
         ensures same { (self.new.book ≡ self.old.book) × (self.new.rooms ≡ self.old.rooms) }
     {
+        // What every book keeps, for `published`.
+        self.is_whole();
         let told = match self.settle(rt) {
             Ok(told) => told,
             Err(_) => return Err(SubmitFault::NoMemory { entered: None }),
         };
-        let reply = decide(&self.head, policy, day, who, request);
+        let reply = self.decided(policy, day, who, request);
         match &reply {
             Reply::Refused(_) => Ok((reply, told)),
             Reply::Accepted(entry) => match self.enter(rt, entry) {
@@ -235,6 +238,27 @@ impl Book {
                 Err(fault) => Err(fault),
             },
         }
+    }
+
+    /// Tells callers what every book keeps: its list is legal, and all of it is published, or all but the last entry.
+    pub fn is_whole(&self)
+        ensures legal { IsLegal self.now.rooms self.now.entries }
+        ensures published { IsAllButOne self.now.published self.now.entries }
+    {
+        let _ = &self.owed;
+    }
+
+    /// The decision on the register after all entries.
+    fn decided(&self, policy: &Policy, day: u32, who: &Name, request: &Request) -> Reply
+        ensures reply { result ≡ decision (register_after self.now.rooms self.now.entries) policy.now day who.now request.now }
+        ensures next { IfAccepted result (IsNextEntry (register_after self.now.rooms self.now.entries)) }
+        ensures date { ReplyHasDate result }
+    {
+        // Laws: the head's register is that of the list, and the date of a reply is one. And what every board keeps.
+        reached_boards_are_whole();
+        replies_have_dates();
+        self.head.is_whole();
+        decide(&self.head, policy, day, who, request)
     }
 
     /// The register after all entries.

@@ -33,15 +33,16 @@ impl<N: Naming, R: Wait + Drop> Desk<N, R> {
     pub fn end(self) -> Book
         ensures named { (result.book ≡ N.book) × (result.rooms ≡ N.rooms) }
     {
-        self.lock.into_inner().into_book()
+        let Desk { lock } = self;
+        lock.into_inner().into_book()
     }
 
     /// Submits the request to the book, under the lock, and says how many entries there are then. Before it is decided the
     /// pass has seen all entries, and once it is answered the one that it became too. What the pass has seen begins with what
     /// it had seen before, also after a fault.
-    pub fn submit(
+    pub fn submit<W: Wait>(
         &self,
-        rt: &R,
+        rt: &W,
         pass: &mut Pass,
         policy: &Policy,
         day: u32,
