@@ -6,9 +6,7 @@ use crate::{Book, Desk, Naming};
 use board::{Answer, Board, Body, Lens, Media};
 use num_range::{Number, Range, Space};
 use policy_table::Policy;
-use reg_entry::{
-    Cc, Handle, Holder, Kind, Name, Refusal, Reply, Request, Rooms, Text,
-};
+use reg_entry::{Cc, Handle, Holder, Kind, Name, Refusal, Reply, Request, Rooms, Text};
 use snapshot_pub::Pass;
 use std::alloc::{AllocError, Global};
 use std::marker::Brand;
@@ -111,7 +109,12 @@ fn asked(policy: &Policy) -> Option<Asked<'_>> {
 
 impl<'a, N: Naming, R: Wait + Drop> Duty<'a, N, R> {
     /// Why the request is refused, if it is, and the number that it is answered with.
-    fn submit<W: Wait>(&mut self, rt: &W, asked: &Asked<'_>, request: &Request) -> Option<(Option<Refusal>, u64)> {
+    fn submit<W: Wait>(
+        &mut self,
+        rt: &W,
+        asked: &Asked<'_>,
+        request: &Request,
+    ) -> Option<(Option<Refusal>, u64)> {
         let desk = self.desk;
         match desk.submit(rt, &mut self.pass, asked.policy, TODAY, &asked.who, request) {
             Ok((Reply::Accepted(_), number)) => Some((None, number)),
@@ -222,12 +225,30 @@ fn goes_well<N: Naming + Send + Sync, R: Wait + Drop + Send, W: Threads + Wait +
     requires fourth { passes.3 ≡ first_pass book }
 {
     let desk: Desk<N, R> = Desk::new(book, own);
-    let mut one = Duty { desk: &desk, pass: passes.0 };
-    let mut two = Duty { desk: &desk, pass: passes.1 };
-    let mut three = Duty { desk: &desk, pass: passes.2 };
-    let mut four = Duty { desk: &desk, pass: passes.3 };
+    let mut one = Duty {
+        desk: &desk,
+        pass: passes.0,
+    };
+    let mut two = Duty {
+        desk: &desk,
+        pass: passes.1,
+    };
+    let mut three = Duty {
+        desk: &desk,
+        pass: passes.2,
+    };
+    let mut four = Duty {
+        desk: &desk,
+        pass: passes.3,
+    };
     let well = are_answered(rt, alloc, asked, &mut one, &mut two)
-        && are_shared(rt, alloc, asked, (&mut one, &mut two), (&mut three, &mut four));
+        && are_shared(
+            rt,
+            alloc,
+            asked,
+            (&mut one, &mut two),
+            (&mut three, &mut four),
+        );
     drop((one, two, three, four));
     let book = desk.end();
     let entries = book.head().entries();
@@ -264,6 +285,9 @@ fn passes_learn_what_they_are_answered(rt: HostRuntime) -> Result<(), Fail> {
     let policy = Policy::read(rt.alloc(), POLICY.as_bytes())?;
     let asked = asked(&policy).ok_or("requests")?;
     let wanted = (true, 2 + 2 * EACH);
-    assert_eq!(rt; goes_well_over_new_book(&rt, &rt, rt.alloc(), &asked)?, wanted);
+    assert_eq!(rt;
+        goes_well_over_new_book(&rt, &rt, rt.alloc(), &asked)?,
+        wanted
+    );
     Ok(())
 }

@@ -14,8 +14,7 @@ pub enum DoorDuty<'a, W: Way, N: Naming, R: Wait + Drop, C: Clock> {
 }
 
 impl<W: Way + Send, N: Naming + Send, R: Wait + Drop + Send, C: Clock + Sync> Duty
-    for DoorDuty<'_, W, N, R, C>
-{
+    for DoorDuty<'_, W, N, R, C> {
     ghost use Rattle.hall.specs.Desk.{among_others};
     ghost use Rattle.door_duty.specs.Along.{plain_way};
     ghost use Rattle.door_duty.specs.Served.{HasServedConnection, HasServedLine, IsWorked};
@@ -24,20 +23,20 @@ impl<W: Way + Send, N: Naming + Send, R: Wait + Drop + Send, C: Clock + Sync> Du
     type Done = Served<W>;
 
     ghost done = { elim [
-        Http duty ↦ λ served. IsWorked
-            (λ before end after. HasServedConnection (among_others before.rooms duty.policy.now (C.states duty.clock.now)) before end after)
-            duty.pass
-            (plain_way (W.door duty.way) (W.port duty.way) (W.links_left duty.way) (W.lent duty.way) (W.returned duty.way) (W.faults duty.way))
-            served.connections
-            (plain_way (W.door served.way) (W.port served.way) (W.links_left served.way) (W.lent served.way) (W.returned served.way) (W.faults served.way))
-            served.pass
-        | Line duty ↦ λ served. IsWorked
-            (λ before end after. HasServedLine duty.registry.now before end after)
-            duty.pass
-            (plain_way (W.door duty.way) (W.port duty.way) (W.links_left duty.way) (W.lent duty.way) (W.returned duty.way) (W.faults duty.way))
-            served.connections
-            (plain_way (W.door served.way) (W.port served.way) (W.links_left served.way) (W.lent served.way) (W.returned served.way) (W.faults served.way))
-            served.pass
+      | Http duty ↦ λ served. IsWorked
+          (λ before end after. HasServedConnection (among_others before.rooms duty.policy.now (C.states duty.clock.now)) before end after)
+          duty.pass
+          (plain_way (W.door duty.way) (W.port duty.way) (W.links_left duty.way) (W.lent duty.way) (W.returned duty.way) (W.faults duty.way))
+          served.connections
+          (plain_way (W.door served.way) (W.port served.way) (W.links_left served.way) (W.lent served.way) (W.returned served.way) (W.faults served.way))
+          served.pass
+      | Line duty ↦ λ served. IsWorked
+          (λ before end after. HasServedLine duty.registry.now before end after)
+          duty.pass
+          (plain_way (W.door duty.way) (W.port duty.way) (W.links_left duty.way) (W.lent duty.way) (W.returned duty.way) (W.faults duty.way))
+          served.connections
+          (plain_way (W.door served.way) (W.port served.way) (W.links_left served.way) (W.lent served.way) (W.returned served.way) (W.faults served.way))
+          served.pass
     ] };
 
     fn work<T: Wait + Sync>(self, rt: &T) -> Served<W> {

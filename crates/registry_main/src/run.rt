@@ -41,7 +41,6 @@ ghost use Rattle.command_words.specs.declared.command.Publication.TheVariants.{S
 ghost use Rattle.registry_main.specs.declared.exit.Exit.TheVariants.{Done, Usage, PolicyRefused, ReadFault, WriteFault, NoMemory, FeedRefused};
 
 use crate::batch::{Stop, answer_script};
-use command_words::Command;
 use crate::exit::Exit;
 use crate::laws::{
     accepted_entries_are_legal, answers_are_least, mirrors_follow_registers, scripts_conserve,
@@ -52,6 +51,7 @@ use crate::mirror::answer_mirror;
 use crate::policy_bytes::{NoPolicy, read_policy};
 use crate::publish::answer_publication;
 use crate::session::Session;
+use command_words::Command;
 use link_face::{Clock, Sink, Source};
 use load_run::laws::loads_conserve;
 use policy_table::Policy;
