@@ -1,7 +1,7 @@
 -- The links along one way, served one after another.
 use Rattle.std.specs.Prelude.{◌≡◌, ℕ, ◌-◌, ◌^◌, ◌⊎◌, List, [], ◌∷◌, ◌++◌, length, min, Option, IfSome, option_map}
-use Rattle.link_face.specs.declared.door.Door.{Door}
-use Rattle.link_face.specs.Doors.{LinkRecord}
+use Rattle.door_face.specs.declared.door.Door.{Door}
+use Rattle.door_face.specs.Doors.{LinkRecord}
 use Rattle.link_face.specs.Faults.{HasRisen}
 use Rattle.snapshot_pub.specs.Pass.{PlainPass}
 

@@ -2,7 +2,7 @@
 use Rattle.std.specs.Prelude.{◌≡◌, ◌≢◌, ◌⊎◌, ℕ, List, Option}
 use Rattle.std.specs.Io.KnownBytes.{IsAtEnd}
 use mathlib.Core.List.{IsPrefix}
-use Rattle.link_face.specs.Doors.{LinkRecord, IsFresh}
+use Rattle.door_face.specs.Doors.{LinkRecord, IsFresh}
 use Rattle.link_face.specs.Faults.{HasRisen}
 use Rattle.wire_http.specs.declared.message.ConnEnd.{ConnEnd}
 use Rattle.wire_http.specs.declared.message.ConnEnd.TheVariants.{Closed, ReadFault, WriteFault, Shut}

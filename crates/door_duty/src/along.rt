@@ -2,7 +2,8 @@
 ghost use Rattle.door_duty.specs.Along.{HasServedWay, plain_way};
 
 use crate::service::Service;
-use link_face::{Failed, Way};
+use door_face::Way;
+use link_face::Failed;
 use std::sync::Wait;
 
 /// Serves each link that the way gives, and gives it back, until there are no more or the way fails. It says how many there

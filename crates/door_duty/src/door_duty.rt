@@ -3,7 +3,8 @@ use crate::http_duty::HttpDuty;
 use crate::line_duty::LineDuty;
 use crate::served::Served;
 use desk_book::Naming;
-use link_face::{Clock, Duty, Way};
+use door_face::{Duty, Way};
+use link_face::Clock;
 use std::sync::Wait;
 
 /// What one worker does, at the door whose links it serves.

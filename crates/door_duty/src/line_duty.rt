@@ -5,7 +5,7 @@ ghost use Rattle.door_duty.specs.Served.{HasServedLine, IsWorked};
 use crate::along::serve_way;
 use crate::line_service::LineService;
 use crate::served::Served;
-use link_face::Way;
+use door_face::Way;
 use reg_entry::Name;
 use snapshot_pub::Pass;
 use std::alloc::Global;

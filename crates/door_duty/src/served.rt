@@ -1,4 +1,4 @@
-use link_face::Way;
+use door_face::Way;
 use snapshot_pub::Pass;
 
 /// What a duty leaves: its pass, its way, and how many links were served, up to the greatest number of the type, at which the

@@ -1,6 +1,6 @@
 //! What serves one link.
 ghost use Rattle.std.specs.Prelude.{ℕ, List, Option};
-ghost use Rattle.link_face.specs.Doors.{LinkRecord, link_record, IsFresh};
+ghost use Rattle.door_face.specs.Doors.{LinkRecord, link_record, IsFresh};
 ghost use Rattle.snapshot_pub.specs.Pass.{PlainPass};
 
 use link_face::Link;

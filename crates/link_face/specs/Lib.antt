@@ -1,17 +1,9 @@
 pub mod Bytes
-pub mod Doors
-pub mod Duties
-pub mod FailingGate
-pub mod FailingInTurn
 pub mod FailingSink
 pub mod FailingSource
-pub mod FailingWay
 pub mod FaultPlan
 pub mod Faults
 pub mod InSource
-pub mod MemGate
 pub mod MemSink
 pub mod MemSource
-pub mod MemWay
 pub mod OutSink
-pub mod SocketGate

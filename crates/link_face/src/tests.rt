@@ -9,7 +9,6 @@ use crate::{
 use std::time::Duration;
 use std::{io, rt};
 
-mod doors;
 mod links;
 
 // The loop that a caller writes: the traits' clauses alone say what it copies, and why it fails.

@@ -10,7 +10,7 @@ use std::net::{Shutdown, TcpListener, TcpStream};
 use std::test::Fail;
 
 // Sends back what comes: over any link all that is read is written, and nothing else.
-pub(super) fn echo<L: Link>(link: &mut L) -> Result<(), Failed>
+fn echo<L: Link>(link: &mut L) -> Result<(), Failed>
     ensures all { OnOk result (IfSome (L.left link.old) (Appends (L.written link.old) (L.written link.new))) }
     ensures taken { OnOk result ((bytes : List ℕ)
         × Appends (L.taken link.old) (L.taken link.new) bytes × Appends (L.written link.old) (L.written link.new) bytes) }

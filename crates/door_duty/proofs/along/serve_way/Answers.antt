@@ -1,5 +1,5 @@
 use Rattle.std.proofs.Common.{◌≡◌, ◌∙◌, refl, List, [], ◌∷◌, ◌++◌}
-use Rattle.link_face.specs.Doors.{LinkRecord}
+use Rattle.door_face.specs.Doors.{LinkRecord}
 use Rattle.door_duty.proofs.Chains.{none_done, one_given, one_more, given_back}
 use Rattle.door_duty.proofs.along.serve_way.Goals as goal
 

@@ -1,5 +1,5 @@
 use Rattle.std.proofs.Common.{◌≡◌, List, length}
-use Rattle.link_face.specs.Doors.{LinkRecord}
+use Rattle.door_face.specs.Doors.{LinkRecord}
 use Rattle.snapshot_pub.specs.Pass.{PlainPass}
 use Rattle.door_duty.proofs.Chains.{AreDone}
 use Rattle.door_duty.proofs.along.serve_way.Given as goal

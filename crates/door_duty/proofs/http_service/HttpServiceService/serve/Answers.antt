@@ -1,5 +1,5 @@
 -- the conversation, of which the end of the input is told by what the link has left
-use Rattle.link_face.specs.Doors.{link_record}
+use Rattle.door_face.specs.Doors.{link_record}
 use Rattle.door_duty.proofs.Ends.{conversation_by}
 use Rattle.door_duty.proofs.http_service.HttpServiceService.serve.Goals as goal
 

@@ -1,5 +1,5 @@
 -- the line and its answer, of which the end of the input is told by what the link has left
-use Rattle.link_face.specs.Doors.{link_record}
+use Rattle.door_face.specs.Doors.{link_record}
 use Rattle.door_duty.proofs.Ends.{line_by}
 use Rattle.door_duty.proofs.line_service.LineServiceService.serve.Goals as goal
 
