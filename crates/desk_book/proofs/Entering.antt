@@ -1,5 +1,5 @@
 -- Which entry a request became that has no answer.
-use Rattle.std.proofs.Common.{◌≡◌, ◌+◌, ℕ, List, [], ◌∷◌, ◌++◌, length, Option, None, Some, refl, sym, ap, ap₂, subst, ◌∙◌, length-append, Result, Ok, Err}
+use Rattle.std.proofs.Common.{◌≡◌, ℕ, List, [], ◌∷◌, length, Option, None, Some, refl, sym, ap, subst, ◌∙◌, length-append, Result, Ok, Err}
 use Rattle.std.specs.Prelude.{IfErr, IfSome}
 use mathlib.Core.List.{IsPrefix}
 use Rattle.reg_entry.specs.declared.rooms.Rooms.{Rooms}

@@ -1,5 +1,5 @@
 -- What a desk's answer says of the entries that the pass has seen.
-use Rattle.std.specs.Prelude.{◌≡◌, ◌≤◌, ◌<◌, ◌+◌, ℕ, List, ◌∷◌, [], ◌++◌, Option, None, Some, take, length}
+use Rattle.std.specs.Prelude.{◌≡◌, ◌+◌, ℕ, List, ◌∷◌, [], ◌++◌, Option, None, Some, take, length}
 use mathlib.Core.List.{IsPrefix}
 use Rattle.reg_entry.specs.declared.rooms.Rooms.{Rooms}
 use Rattle.reg_entry.specs.declared.entry.Reply.{Reply}

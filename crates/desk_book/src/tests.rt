@@ -9,7 +9,7 @@ use policy_table::Policy;
 use reg_entry::{Cc, Handle, Holder, Kind, Name, Refusal, Reply, Request, Rooms, Text};
 use snapshot_pub::Pass;
 use std::alloc::{AllocError, Global};
-use std::marker::Brand;
+use std::marker::{Brand, PhantomData};
 use std::sync::Wait;
 use std::test::Fail;
 use std::thread::{Threads, join};
@@ -72,23 +72,24 @@ impl Lens for Count {
     }
 }
 
-/// A desk and a pass of its snapshots.
-struct Duty<'a, N: Naming, R: Wait + Drop> {
-    desk: &'a Desk<N, R>,
+/// A pass of the snapshots that are named.
+#[derive(Drop)]
+struct Duty<N: Naming> {
     pass: Pass,
+    of: PhantomData<N>,
     ghost named: { (pass.book ≡ N.book) × (pass.rooms ≡ N.rooms) },
 }
 
-/// What is asked, by whom and under which policy.
-struct Asked<'a> {
-    policy: &'a Policy,
+/// What is asked, and by whom.
+#[derive(Drop)]
+struct Asked {
     who: Name,
     receive: Request,
     add: Request,
     edit: Request,
 }
 
-fn asked(policy: &Policy) -> Option<Asked<'_>> {
+fn some_requests() -> Option<Asked> {
     // RFC 5737.
     let range = Range::new(Space::Ipv4, 0xc000_0200, 0xc000_02ff)?;
     let holder = Holder {
@@ -99,7 +100,6 @@ fn asked(policy: &Policy) -> Option<Asked<'_>> {
         email: Text::read(b"noc@alpha.example")?,
     };
     Some(Asked {
-        policy,
         who: Name::read(b"local")?,
         receive: Request::Receive { range },
         add: Request::AddHolder { holder },
@@ -107,16 +107,17 @@ fn asked(policy: &Policy) -> Option<Asked<'_>> {
     })
 }
 
-impl<'a, N: Naming, R: Wait + Drop> Duty<'a, N, R> {
+impl<N: Naming> Duty<N> {
     /// Why the request is refused, if it is, and the number that it is answered with.
-    fn submit<W: Wait>(
+    fn submit<R: Wait + Drop, W: Wait>(
         &mut self,
         rt: &W,
-        asked: &Asked<'_>,
+        desk: &Desk<N, R>,
+        policy: &Policy,
+        who: &Name,
         request: &Request,
     ) -> Option<(Option<Refusal>, u64)> {
-        let desk = self.desk;
-        match desk.submit(rt, &mut self.pass, asked.policy, TODAY, &asked.who, request) {
+        match desk.submit(rt, &mut self.pass, policy, TODAY, who, request) {
             Ok((Reply::Accepted(_), number)) => Some((None, number)),
             Ok((Reply::Refused(refusal), number)) => Some((Some(refusal), number)),
             Err(_) => None,
@@ -132,10 +133,17 @@ impl<'a, N: Naming, R: Wait + Drop> Duty<'a, N, R> {
     }
 
     /// Whether so many entries are made, each with a number above the one before and no more than the pass has seen then.
-    fn submit_all<W: Wait>(&mut self, rt: &W, asked: &Asked<'_>, entries: u64) -> bool {
+    fn submit_all<R: Wait + Drop, W: Wait>(
+        &mut self,
+        rt: &W,
+        desk: &Desk<N, R>,
+        policy: &Policy,
+        asked: &Asked,
+        entries: u64,
+    ) -> bool {
         let mut last = 0;
         for _ in 0..entries {
-            match self.submit(rt, asked, &asked.edit) {
+            match self.submit(rt, desk, policy, &asked.who, &asked.edit) {
                 Some((None, number)) if number > last && number <= self.pass.entries() => {
                     last = number;
                 }
@@ -165,13 +173,15 @@ impl<'a, N: Naming, R: Wait + Drop> Duty<'a, N, R> {
 fn are_answered<N: Naming, R: Wait + Drop, W: Wait>(
     rt: &W,
     alloc: Global,
-    asked: &Asked<'_>,
-    first: &mut Duty<'_, N, R>,
-    second: &mut Duty<'_, N, R>,
+    desk: &Desk<N, R>,
+    policy: &Policy,
+    asked: &Asked,
+    first: &mut Duty<N>,
+    second: &mut Duty<N>,
 ) -> bool {
     let before = second.look(alloc);
-    let received = first.submit(rt, asked, &asked.receive);
-    let added = first.submit(rt, asked, &asked.add);
+    let received = first.submit(rt, desk, policy, &asked.who, &asked.receive);
+    let added = first.submit(rt, desk, policy, &asked.who, &asked.add);
     let after = second.look(alloc);
     let seen = second.pass.entries();
     let number = Number::of(Space::Ipv4, 0xc000_0200);
@@ -181,27 +191,29 @@ fn are_answered<N: Naming, R: Wait + Drop, W: Wait>(
         && added == Some((None, 2))
         && after == Some(2)
         && seen == 2
-        && second.submit(rt, asked, &asked.receive) == overlap
+        && second.submit(rt, desk, policy, &asked.who, &asked.receive) == overlap
 }
 
 /// Whether two threads make entries while two look.
 fn are_shared<N: Naming + Send + Sync, R: Wait + Drop + Send, W: Threads + Wait + Sync>(
     rt: &W,
     alloc: Global,
-    asked: &Asked<'_>,
-    writers: (&mut Duty<'_, N, R>, &mut Duty<'_, N, R>),
-    lookers: (&mut Duty<'_, N, R>, &mut Duty<'_, N, R>),
+    desk: &Desk<N, R>,
+    policy: &Policy,
+    asked: &Asked,
+    one: &mut Duty<N>,
+    two: &mut Duty<N>,
+    three: &mut Duty<N>,
+    four: &mut Duty<N>,
 ) -> bool {
-    let (one, two) = writers;
-    let (three, four) = lookers;
     let all = 2 + 2 * EACH;
     let ((a, b), (c, d)) = join(
         rt,
         || {
             join(
                 rt,
-                || one.submit_all(rt, asked, EACH),
-                || two.submit_all(rt, asked, EACH),
+                || one.submit_all(rt, desk, policy, asked, EACH),
+                || two.submit_all(rt, desk, policy, asked, EACH),
             )
         },
         || join(rt, || three.watch(alloc, all), || four.watch(alloc, all)),
@@ -214,7 +226,8 @@ fn goes_well<N: Naming + Send + Sync, R: Wait + Drop + Send, W: Threads + Wait +
     rt: &W,
     own: R,
     alloc: Global,
-    asked: &Asked<'_>,
+    policy: &Policy,
+    asked: &Asked,
     book: Book,
     passes: (Pass, Pass, Pass, Pass),
 ) -> (bool, u64)
@@ -225,31 +238,27 @@ fn goes_well<N: Naming + Send + Sync, R: Wait + Drop + Send, W: Threads + Wait +
     requires fourth { passes.3 ≡ first_pass book }
 {
     let desk: Desk<N, R> = Desk::new(book, own);
+    let (one, two, three, four) = passes;
     let mut one = Duty {
-        desk: &desk,
-        pass: passes.0,
+        pass: one,
+        of: PhantomData,
     };
     let mut two = Duty {
-        desk: &desk,
-        pass: passes.1,
+        pass: two,
+        of: PhantomData,
     };
     let mut three = Duty {
-        desk: &desk,
-        pass: passes.2,
+        pass: three,
+        of: PhantomData,
     };
     let mut four = Duty {
-        desk: &desk,
-        pass: passes.3,
+        pass: four,
+        of: PhantomData,
     };
-    let well = are_answered(rt, alloc, asked, &mut one, &mut two)
+    let well = are_answered(rt, alloc, &desk, policy, asked, &mut one, &mut two)
         && are_shared(
-            rt,
-            alloc,
-            asked,
-            (&mut one, &mut two),
-            (&mut three, &mut four),
+            rt, alloc, &desk, policy, asked, &mut one, &mut two, &mut three, &mut four,
         );
-    drop((one, two, three, four));
     let book = desk.end();
     let entries = book.head().entries();
     book.close(rt);
@@ -261,7 +270,8 @@ fn goes_well_over_new_book<R: Wait + Drop + Send, W: Threads + Wait + Sync>(
     rt: &W,
     own: R,
     alloc: Global,
-    asked: &Asked<'_>,
+    policy: &Policy,
+    asked: &Asked,
 ) -> Result<(bool, u64), Fail> {
     let (book, mut passes) = Book::open(rt, alloc, ROOMS, 4)?;
     match (passes.pop(), passes.pop(), passes.pop(), passes.pop()) {
@@ -269,6 +279,7 @@ fn goes_well_over_new_book<R: Wait + Drop + Send, W: Threads + Wait + Sync>(
             rt,
             own,
             alloc,
+            policy,
             asked,
             book,
             (one, two, three, four),
@@ -283,10 +294,10 @@ fn goes_well_over_new_book<R: Wait + Drop + Send, W: Threads + Wait + Sync>(
 #[test]
 fn passes_learn_what_they_are_answered(rt: HostRuntime) -> Result<(), Fail> {
     let policy = Policy::read(rt.alloc(), POLICY.as_bytes())?;
-    let asked = asked(&policy).ok_or("requests")?;
+    let asked = some_requests().ok_or("requests")?;
     let wanted = (true, 2 + 2 * EACH);
     assert_eq!(rt;
-        goes_well_over_new_book(&rt, &rt, rt.alloc(), &asked)?,
+        goes_well_over_new_book(&rt, &rt, rt.alloc(), &policy, &asked)?,
         wanted
     );
     Ok(())
