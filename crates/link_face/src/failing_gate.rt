@@ -102,7 +102,9 @@ impl<'a, L: Link + Drop + Send> Gate for FailingGate<'a, L> {
         ensures accepts { IfOk result (λ way. (way.plan.calls ≡ self.old.accepts) × (way.plan.next ≡ 0)) }
         ensures kept { self.new.accepts ≡ self.old.accepts }
     {
-        if !self.plan.begin_call() && let Ok(way) = self.gate.way(door, port) {
+        if !self.plan.begin_call()
+            && let Ok(way) = self.gate.way(door, port)
+        {
             return Ok(FailingWay::new(way, self.accepts));
         }
         self.faults = self.faults.saturating_add(1);

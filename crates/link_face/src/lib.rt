@@ -68,8 +68,8 @@ pub mod socket_way;
 pub mod source;
 pub mod spawner;
 pub mod system_day;
+#[cfg(test)]
+mod tests;
 pub mod thread_spawner;
 pub mod way;
 mod working;
-#[cfg(test)]
-mod tests;

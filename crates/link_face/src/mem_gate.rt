@@ -122,11 +122,13 @@ impl<L: Link + Drop> MemGate<L> {
         requires few { length (the_door self.old door).to_come + (the_door self.old door).given < 2 ^ 32 }
         requires unused { IsUnused way }
         ensures ok { OnOk result (self.new ≡ record self.old {
-            http = at_door (record self.old.http { to_come = self.old.http.to_come ++ way ∷ [] }) self.old.http door;
-            line = at_door self.old.line (record self.old.line { to_come = self.old.line.to_come ++ way ∷ [] }) door }) }
+          http = at_door (record self.old.http { to_come = self.old.http.to_come ++ way ∷ [] }) self.old.http door;
+          line = at_door self.old.line (record self.old.line { to_come = self.old.line.to_come ++ way ∷ [] }) door;
+        }) }
         ensures err { OnErr result (self.new ≡ self.old) }
     {
-        self.returned.reserve(self.http.len() + self.line.len() + 1)?;
+        self.returned
+            .reserve(self.http.len() + self.line.len() + 1)?;
         match door {
             Door::Http => self.http.add(way),
             Door::Line => self.line.add(way),

@@ -15,8 +15,7 @@ use std::marker::Model;
 #[derive(Drop)]
 struct FreshLink<L: Link + Drop> {
     link: L,
-    ghost fresh: { IsFresh (link_record (L.taken link) (L.left link) (L.written link) (L.Source.faults link)) }
-        by { Prim.hlevel props },
+    ghost fresh: { IsFresh (link_record (L.taken link) (L.left link) (L.written link) (L.Source.faults link)) } by { Prim.hlevel props },
 }
 
 /// A way over links in memory, which never fails. A `FailingWay` is one that does.
@@ -69,8 +68,10 @@ impl<L: Link + Drop> MemWay<L> {
         requires unused { (self.old.lent ≡ 0) × (self.old.returned ≡ []) }
         requires few { length self.old.to_come < 2 ^ 32 }
         requires fresh { IsFresh (link_record (L.taken link) (L.left link) (L.written link) (L.Source.faults link)) }
-        ensures ok { OnOk result (self.new ≡ record self.old { to_come = self.old.to_come
-            ++ link_record (L.taken link) (L.left link) (L.written link) (L.Source.faults link) ∷ [] }) }
+        ensures ok { OnOk result (self.new ≡ record self.old {
+          to_come = self.old.to_come
+              ++ link_record (L.taken link) (L.left link) (L.written link) (L.Source.faults link) ∷ [];
+        }) }
         ensures err { OnErr result (self.new ≡ self.old) }
     {
         self.returned.reserve(self.to_come.len() + 1)?;

@@ -102,7 +102,7 @@ fn works_two_doors(rt: HostRuntime) -> Result<(), Fail> {
                 }
             }
         }
-        assert_eq!(rt; echoed.as_slice(), b"one/two/three//");
+        assert_eq!(rt; echoed.as_slice(), b"one/two/three//".as_slice());
         assert!(rt; gate.way(Door::Line, 4343).is_err(), "a third way");
         assert_eq!(rt; gate.faults(), 1);
     }
