@@ -1,5 +1,6 @@
 -- What a desk's answer says of the list that the pass has seen then.
-use Rattle.std.proofs.Common.{◌≡◌, ◌≤◌, ◌<◌, ◌+◌, ℕ, List, [], ◌∷◌, ◌++◌, take, length, refl, sym, ap, subst, ◌∙◌, arith, length-append}
+use Rattle.std.proofs.Common.{◌≡◌, ◌≤◌, ◌<◌, ◌+◌, ℕ, List, [], ◌∷◌, ◌++◌, take, length, refl, sym, ap, subst, ◌∙◌, arith, length-append, Result, Ok, Err}
+use Rattle.std.specs.Prelude.{IfOk}
 use Rattle.std.proofs.lemmas.List.{append-nil, take_at}
 use mathlib.Core.List.{IsPrefix}
 use Rattle.reg_entry.specs.declared.rooms.Rooms.{Rooms}
@@ -11,6 +12,7 @@ use Rattle.reg_entry.specs.Policy.{PlainPolicy}
 use Rattle.reg_entry.specs.Decision.{decision, IfAccepted}
 use Rattle.reg_entry.specs.Register.{register_after}
 use Rattle.entry_log.proofs.Fronts.{prefix_trans}
+use Rattle.desk_book.specs.declared.fault.DeskFault.{DeskFault}
 use Rattle.desk_book.specs.Reply.{with_reply}
 use Rattle.desk_book.specs.Desk.{IsAnsweredOn, IsReplyAt}
 
@@ -52,3 +54,11 @@ pub accepted_is_new : (rooms : Rooms) (policy : PlainPolicy) (day : ℕ) (who : 
 accepted_is_new rooms policy day who request before (Accepted e) number after es a =
     omega (arith, a.number_is, length-append es (e ∷ []), prefix_length before es a.seen)
 accepted_is_new rooms policy day who request before (Refused refusal) number after es a = tt
+
+-- what was answered on the entries that lay behind the lock was answered on some
+pub answered_on_some : (rooms named : Rooms) (policy : PlainPolicy) (day : ℕ) (who : List ℕ) (request : Request) (before after es : List PlainEntry)
+    (result : Result (Reply × ℕ) DeskFault) → rooms ≡ named → IfOk result (λ r. IsAnsweredOn named policy day who request before r.0 r.1 after es)
+    → IfOk result (λ r. (xs : List PlainEntry) × IsAnsweredOn rooms policy day who request before r.0 r.1 after xs)
+answered_on_some rooms named policy day who request before after es (Ok r) is a =
+    (es, subst (λ (rooms : Rooms). IsAnsweredOn rooms policy day who request before r.0 r.1 after es) (sym is) a)
+answered_on_some rooms named policy day who request before after es (Err fault) is a = tt

@@ -1,2 +1,3 @@
 pub mod Publishing
+pub mod Entering
 pub mod Answering

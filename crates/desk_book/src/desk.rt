@@ -26,7 +26,9 @@ impl<N: Naming, R: Wait + Drop> Desk<N, R> {
     pub fn new(book: Book, rt: R) -> Desk<N, R>
         requires named { (book.book ≡ N.book) × (book.rooms ≡ N.rooms) }
     {
-        Desk { lock: Mutex::new(Locked::new(book, rt)) }
+        Desk {
+            lock: Mutex::new(Locked::new(book, rt)),
+        }
     }
 
     /// Takes the book out again. It takes no memory.

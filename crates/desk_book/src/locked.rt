@@ -1,5 +1,5 @@
 //! What lies behind the lock.
-ghost use Rattle.std.specs.Prelude.{◌≡◌, true, false, None, IfOk, IfErr, OnOk};
+ghost use Rattle.std.specs.Prelude.{◌≡◌, true, false, None, IfOk, IfErr, IfSome, OnOk};
 ghost use mathlib.Core.List.{IsPrefix};
 ghost use Rattle.reg_entry.specs.Register.{register_after};
 ghost use Rattle.reg_entry.specs.Decision.{decision};
@@ -9,7 +9,7 @@ ghost use Rattle.reader_edge.specs.Refusals.{raised};
 ghost use Rattle.desk_book.specs.Book.{IsLeftAt};
 ghost use Rattle.desk_book.specs.Faults.{is_shut, is_shut_fault, entered_by, entered_by_submit};
 ghost use Rattle.desk_book.specs.Reply.{with_reply, number_of};
-ghost use Rattle.desk_book.specs.Desk.{IsAnsweredOn, IsEntered};
+ghost use Rattle.desk_book.specs.Desk.{IsAnsweredOn};
 
 use crate::{Book, DeskFault, Naming, SubmitFault};
 use policy_table::Policy;
@@ -103,7 +103,7 @@ impl<N: Naming, R: Wait + Drop> Locked<N, R> {
         ensures entries { IfOk result (λ r. (self.new.book.entries ≡ with_reply self.old.book.entries r.0) × (self.new.book.published ≡ self.new.book.entries)) }
         ensures date { IfOk result (λ r. ReplyHasDate r.0) }
         ensures fault { IfErr result (λ fault. IsLeftAt (entered_by fault) (decision (register_after N.rooms self.old.book.entries) policy.now day who.now request.now) self.old.book.entries self.new.book.entries) }
-        ensures entered { IfErr result (λ fault. IsEntered N.rooms policy.now day who.now request.now pass.old.entries (entered_by fault)) }
+        ensures entered { IfErr result (λ fault. IfSome (entered_by fault) (λ number. IsPrefix pass.old.entries self.old.book.entries)) }
         ensures published { is_shut result ≡ true → self.new.book.published ≡ self.new.book.entries }
         ensures seen { IsPrefix pass.old.entries pass.new.entries }
         ensures legal { IsLegal pass.new.rooms pass.new.entries }
