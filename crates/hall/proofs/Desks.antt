@@ -1,6 +1,6 @@
 -- What a pass of a desk's snapshots sees in one call.
-use Rattle.std.proofs.Common.{◌≡◌, ℕ, ◌+◌, ◌-◌, ◌^◌, ◌<◌, ◌≤◌, List, refl, sym, ap, ap₂, ◌∙◌, subst, inl, inr, ◌⊎◌, arith, min}
-use Rattle.std.specs.Prelude.{Result, Ok, Err}
+use Rattle.std.proofs.Common.{◌≡◌, ℕ, ◌-◌, ◌^◌, ◌<◌, ◌≤◌, List, sym, ap, ◌∙◌, subst, inl, inr, arith}
+use Rattle.std.specs.Prelude.{Ok}
 use Rattle.std.proofs.lemmas.Bool.{cases_lt}
 use mathlib.Core.List.{IsPrefix}
 use Rattle.reg_entry.specs.declared.rooms.Rooms.{Rooms}
@@ -15,10 +15,9 @@ use Rattle.reader_edge.specs.Refusals.{raised}
 use Rattle.snapshot_pub.specs.Pass.{PlainPass}
 use Rattle.desk_book.specs.Desk.{IsAnsweredOn}
 use Rattle.link_face.specs.Faults.{HasRisen}
-use Rattle.hall.specs.declared.backend.Fault.{Fault}
-use Rattle.hall.specs.declared.backend.Fault.TheVariants.{NoMemory, Shut, DiskFailed}
-use Rattle.hall.specs.Standing.{Standing, standing, over, NoCountFalls, IsCausedBetween}
-use Rattle.hall.specs.Backend.{AnswersOn, LooksAt, IsDecidedOn, Submits}
+use Rattle.hall.specs.declared.backend.Fault.TheVariants.{NoMemory, Shut}
+use Rattle.hall.specs.Standing.{standing, over, IsCausedBetween}
+use Rattle.hall.specs.Backend.{LooksAt, Submits}
 use Rattle.hall.specs.Desk.{seen_by, IsDeskFault}
 
 -- the board of every list of entries has the list's register

@@ -3,14 +3,25 @@ use Rattle.std.proofs.Common.{◌≡◌, ℕ, List, ◌++◌, codes, length, Opt
 use Rattle.std.specs.Prelude.{Result, Ok, Err}
 use Rattle.wire_http.specs.declared.message.ConnEnd.{ConnEnd}
 use Rattle.wire_http.specs.declared.message.ConnEnd.TheVariants.{Closed, ReadFault, WriteFault, NoMemory, Shut}
-use Rattle.reg_entry.specs.Operations.{board_after}
+use Rattle.reg_entry.specs.Operations.{PlainBoard, board_after}
+use Rattle.board.specs.declared.lens.Answer.{Answer}
 use Rattle.nrtm_stream.specs.declared.ask.Ask.{Ask}
 use Rattle.nrtm_stream.specs.declared.ask.AskFault.{AskFault}
 use Rattle.nrtm_stream.specs.Ask.{fault_text}
 use Rattle.nrtm_stream.specs.Stream.{capitals}
-use Rattle.nrtm_stream.specs.Answer.{stream_answer}
+use Rattle.nrtm_stream.specs.Answer.{stream_answer, nrtm_answer}
 use Rattle.snapshot_pub.specs.Pass.{PlainPass}
-use Rattle.hall.specs.Stream.{asked_in, IsSettled, answer_to, line_answer, HasLooked, HasTold, LineEndsAs, IsLineAnswered}
+use Rattle.hall.specs.Stream.{asked_in, IsSettled, answer_to, line_answer, HasLooked, HasTold, LineEndsAs}
+
+-- what was read of the bytes is what they ask
+pub asks_as : (registry came slice : List ℕ) (read answer : Result Ask AskFault) → read ≡ asked_in registry slice → slice ≡ came → read ≡ answer
+    → asked_in registry came ≡ answer
+asks_as registry came slice read answer is same answers = sym (ap (asked_in registry) same) ∙ sym is ∙ answers
+
+-- the body of the look's answer is the stream
+pub body_is : (board : PlainBoard) (ask : Ask) (registry text : List ℕ) (answer : Answer) → text ≡ answer.body → answer ≡ nrtm_answer board ask registry
+    → text ≡ stream_answer board (capitals registry) ask
+body_is board ask registry text answer is told = is ∙ ap (λ (a : Answer). a.body) told
 
 -- where the input had ended it has still
 settled_later : (then_ now : Type 0) (bytes : List ℕ) → (then_ → now) → IsSettled then_ bytes → IsSettled now bytes

@@ -1,5 +1,5 @@
 -- The bytes of a line as they come.
-use Rattle.std.proofs.Common.{ℕ, Bool, true, false, List, [], ◌++◌, Option, subst, sym}
+use Rattle.std.proofs.Common.{ℕ, Bool, true, false, List, [], Option, subst, sym}
 use Rattle.std.specs.Prelude.{Result, Ok, Err}
 use Rattle.std.specs.Io.KnownBytes.{Appends, Consumes}
 use Rattle.std.proofs.KnownBytes.{Appends-nil, Consumes-nil, Appends-trans, Consumes-trans}

@@ -1,5 +1,5 @@
 -- How far a register behind a desk has come for a pass, and what it may meet there.
-use Rattle.std.specs.Prelude.{ℕ, List, ⊤}
+use Rattle.std.specs.Prelude.{ℕ, ⊤}
 use mathlib.Core.List.{IsPrefix}
 use Rattle.reg_entry.specs.declared.rooms.Rooms.{Rooms}
 use Rattle.reg_entry.specs.Policy.{PlainPolicy}

@@ -1,5 +1,5 @@
 //! One connection, from its first message to its end.
-ghost use Rattle.std.specs.Prelude.{◌≡◌, ◌≢◌, ◌<◌, ◌⊎◌, ℕ, Bool, true, false, List, [], Err, IfOk, IsTrue, IsFalse, Ok, length};
+ghost use Rattle.std.specs.Prelude.{◌≡◌, ◌≢◌, ◌<◌, ◌⊎◌, Err, IfOk, IsTrue, IsFalse, Ok};
 ghost use Rattle.link_face.specs.Faults.{HasCause, HasRisen};
 ghost use mathlib.Core.List.{IsPrefix};
 ghost use Rattle.reg_entry.specs.Next.{IsLegal};
@@ -17,9 +17,9 @@ ghost use Rattle.wire_http.specs.Step.{AreLengthsOf};
 
 use crate::Backend;
 use crate::answers::answer;
+use crate::desk_backend::DeskBackend;
 use crate::receive::receive;
 use crate::reply::tell_closing;
-use crate::desk_backend::DeskBackend;
 use desk_book::{Desk, Naming};
 use link_face::{Clock, Failed, Link};
 use policy_table::Policy;

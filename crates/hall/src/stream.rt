@@ -1,10 +1,10 @@
 //! One connection for the change stream: a line, its answer, and the end (NRTM version 3).
-ghost use Rattle.std.specs.Prelude.{◌≡◌, ◌≢◌, ◌<◌, ◌≤◌, ◌⊎◌, ◌++◌, ℕ, List, true, false, [], None, Ok, length, IsTrue, IsFalse, OnOk};
+ghost use Rattle.std.specs.Prelude.{◌≡◌, ◌≢◌, ◌<◌, ◌≤◌, ◌⊎◌, ◌++◌, ℕ, List, true, false, [], Ok, length, IsTrue, IsFalse, OnOk};
 ghost use Rattle.std.specs.Io.KnownBytes.{Appends, Consumes};
 ghost use Rattle.std.specs.Str.Lines.{strip_carriage_return};
 ghost use mathlib.Core.List.{IsPrefix};
 ghost use Rattle.link_face.specs.Faults.{HasCause, HasRisen};
-ghost use Rattle.wire_http.specs.declared.message.ConnEnd.TheVariants.{Closed, ReadFault, WriteFault, NoMemory as NoMemoryEnd, Shut as ShutEnd};
+ghost use Rattle.wire_http.specs.declared.message.ConnEnd.TheVariants.{Closed, ReadFault, WriteFault, Shut};
 ghost use Rattle.reg_entry.specs.Next.{IsLegal};
 ghost use Rattle.reader_edge.specs.Refusals.{raised};
 ghost use Rattle.hall.specs.Receive.{HasReceived};
@@ -132,8 +132,8 @@ pub fn serve_line<L: Link>(
     ensures told { result.0 ≡ Closed → L.Source.faults link.new ≡ L.Source.faults link.old }
     ensures seen { IsPrefix pass.old.entries pass.new.entries }
     ensures legal { IsLegal pass.new.rooms pass.new.entries }
-    ensures shut { result.0 ≡ ShutEnd → (pass.new.shuts ≡ raised pass.old.shuts) × (pass.new.entries ≡ pass.old.entries) }
-    ensures open { result.0 ≢ ShutEnd → pass.new.shuts ≡ pass.old.shuts }
+    ensures shut { result.0 ≡ Shut → (pass.new.shuts ≡ raised pass.old.shuts) × (pass.new.entries ≡ pass.old.entries) }
+    ensures open { result.0 ≢ Shut → pass.new.shuts ≡ pass.old.shuts }
     ensures same { (pass.new.book ≡ pass.old.book) × (pass.new.rooms ≡ pass.old.rooms) }
 {
     // What every pass keeps, for `legal` where there is no look.

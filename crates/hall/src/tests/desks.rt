@@ -122,8 +122,7 @@ fn ends_early(alloc: Global, pass: &mut Pass, registry: &Name) -> bool {
     let long = [b'x'; 1100];
     let line = b"-g EXREG:3:6-LAST\n";
     let none_newer = b"% no newer operations\n";
-    asked(alloc, pass, registry, &long, malformed, (&[], &[]))
-        == (ConnEnd::Closed, None, Some(24))
+    asked(alloc, pass, registry, &long, malformed, (&[], &[])) == (ConnEnd::Closed, None, Some(24))
         && asked(alloc, pass, registry, line, none_newer, (&[4], &[]))
             == (ConnEnd::ReadFault, None, Some(0))
         && asked(alloc, pass, registry, line, none_newer, (&[], &[0]))

@@ -1,8 +1,8 @@
 use Rattle.std.proofs.Common.{◌≡◌, ◌∙◌, ℕ, List, Ok, Err, refl, sym, ap, subst}
 use Rattle.std.specs.Io.KnownBytes.{Appends, Consumes}
 use Rattle.hall.specs.Stream.{asked_in, HasTold}
-use Rattle.board.specs.declared.lens.Answer.{Answer}
-use Rattle.hall.proofs.Lines.{fault_told, stream_told}
+use Rattle.reg_entry.specs.Operations.{board_after}
+use Rattle.hall.proofs.Lines.{asks_as, body_is, fault_told, stream_told}
 use Rattle.hall.proofs.stream.serve_line.Goals as goal
 
 pub returns-in-Err-clause-line : goal.returns-in-Err-clause-line
@@ -20,7 +20,8 @@ pub returns-in-Err-read_asked-clause-line : goal.returns-in-Err-read_asked-claus
 returns-in-Err-read_asked-clause-line g c =
     let came : List ℕ = c.receive_line.new.bytes.items in
     let asks : asked_in c.args.registry.now came ≡ Err c.in-Err-read_asked.fault =
-    sym (c.read_asked.ensures ∙ ap (asked_in c.args.registry.now) c.as_slice.ensures.value) ∙ c.in-Err-read_asked.is in (
+    asks_as c.args.registry.now came c.as_slice.result.now c.read_asked.result (Err c.in-Err-read_asked.fault) c.read_asked.ensures
+    c.as_slice.ensures.value c.in-Err-read_asked.is in (
       came,
       record {
         taken = subst (λ t. Appends (g.L.Source.taken c.args.link.now) t came) (sym c.tell.ensures.taken) c.receive_line.ensures.taken;
@@ -39,7 +40,8 @@ returns-in-Ok-look-clause-line g c =
     let came : List ℕ = c.receive_line.new.bytes.items in
     let tell = c.tell-in-Ok-look in
     let asks : asked_in c.args.registry.now came ≡ Ok c.in-Ok-read_asked.ask =
-    sym (c.read_asked.ensures ∙ ap (asked_in c.args.registry.now) c.as_slice.ensures.value) ∙ c.in-Ok-read_asked.is in (
+    asks_as c.args.registry.now came c.as_slice.result.now c.read_asked.result (Ok c.in-Ok-read_asked.ask) c.read_asked.ensures
+    c.as_slice.ensures.value c.in-Ok-read_asked.is in (
       came,
       record {
         taken = subst (λ t. Appends (g.L.Source.taken c.args.link.now) t came) (sym tell.ensures.taken) c.receive_line.ensures.taken;
@@ -48,7 +50,8 @@ returns-in-Ok-look-clause-line g c =
         ends = stream_told c.args.registry.now c.args.pass.now c.look.new.self (g.L.Sink.written c.args.link.now) (g.L.Sink.written tell.new.link)
             tell.result c.in-Ok-look.answer.entries (g.L.Source.has_ended c.receive_line.new.link) (g.L.Source.has_ended tell.new.link) came
             c.bytes.result.now c.in-Ok-read_asked.ask tell.ensures.end c.in-Ok.ensures.settled asks c.in-Ok-look.ensures.entries
-            (c.bytes.ensures ∙ ap (λ (a : Answer). a.body) c.in-Ok-look.ensures.answer)
+            (body_is (board_after c.look.new.self.rooms c.look.new.self.entries) c.in-Ok-read_asked.ask c.args.registry.now c.bytes.result.now
+            c.in-Ok-look.answer c.bytes.ensures c.in-Ok-look.ensures.answer)
             (subst (λ w. HasTold tell.result w c.bytes.result.now (g.L.Sink.written tell.new.link)) c.receive_line.ensures.written tell.ensures.told);
       },
     )
