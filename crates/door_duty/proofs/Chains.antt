@@ -1,8 +1,7 @@
 -- Links served one after another.
-use Rattle.std.proofs.Common.{◌≡◌, ℕ, ◌+◌, ◌-◌, ◌^◌, List, [], ◌∷◌, ◌++◌, length, min, Option, None, Some, IfSome, Ok, refl, sym, ap, ◌∙◌, subst, append_assoc, append-nil, length-append, inl, inr, ◌⊎◌, arith}
+use Rattle.std.proofs.Common.{◌≡◌, ℕ, ◌+◌, ◌-◌, ◌^◌, List, [], ◌∷◌, ◌++◌, length, min, Option, None, Some, IfSome, Ok, refl, sym, ap, ◌∙◌, subst, append_assoc, append-nil, length-append, arith}
 use Rattle.link_face.specs.declared.failed.Failed.{Failed}
 use Rattle.door_face.specs.Doors.{LinkRecord, more_by, with_last, links_given}
-use Rattle.link_face.specs.Faults.{HasRisen}
 use mathlib.Core.List.{IsPrefix}
 use Rattle.reg_entry.specs.Entry.{PlainEntry}
 use Rattle.reg_entry.specs.Next.{IsLegal}

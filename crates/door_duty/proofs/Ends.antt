@@ -1,12 +1,12 @@
 -- What a conversation says of the end of the input holds of what follows from that.
-use Rattle.std.proofs.Common.{◌≡◌, ℕ, ◌⊎◌, inl, inr, List, Option, Result}
+use Rattle.std.proofs.Common.{ℕ, inl, inr, List, Option}
 use Rattle.wire_http.specs.declared.message.ConnEnd.{ConnEnd}
 use Rattle.wire_http.specs.declared.message.ConnEnd.TheVariants.{Closed, ReadFault, WriteFault, NoMemory, Shut}
 use Rattle.snapshot_pub.specs.Pass.{PlainPass}
 use Rattle.hall.specs.Standing.{Standing}
 use Rattle.hall.specs.Turn.{Terms, Turn}
 use Rattle.hall.specs.Conversation.{Known, IsClosing, EndsAs, Conversation, HasConversation}
-use Rattle.hall.specs.Stream.{asked_in, IsSettled, IsLineAnswered, IsLineRefused, LineEndsAs, HasAnsweredLine}
+use Rattle.hall.specs.Stream.{IsSettled, IsLineAnswered, IsLineRefused, LineEndsAs, HasAnsweredLine}
 
 closing_by : (H G : Type 0) → (H → G) → (turns : List Turn) (rest text : List ℕ) → IsClosing H turns rest text → IsClosing G turns rest text
 closing_by H G f turns rest text (inl last) = inl last

@@ -55,7 +55,7 @@ pub record IsLine (registry : List ℕ) (before : PlainPass) (end : LinkRecord) 
   pub line : HasAnsweredLine registry before (known_of start) outcome number (IsAtEnd end.left) (known_of end) after
   pub counted : IsCounted outcome start end
   pub shut : outcome ≡ Shut → after.shuts ≡ raised before.shuts
-  pub open_ : outcome ≢ Shut → after.shuts ≡ before.shuts
+  pub still_open : outcome ≢ Shut → after.shuts ≡ before.shuts
   pub more : HasSeenMore before after
 
 abbrev pub HasServedLine : List ℕ → PlainPass → LinkRecord → PlainPass → Type 0

@@ -14,7 +14,7 @@ returns-clause-served g c =
         line = line_by _ _ _ _ _ _ _ _ _ (g.met.L.Source.nothing_left c.serve_line.new.link) said.line;
         counted = record { fault = said.fault; closed = said.told };
         shut = λ is. (said.shut is).0;
-        open_ = said.open;
+        still_open = said.open;
         more = record { book_is = said.same.0; rooms_are = said.same.1; seen = said.seen; legal = said.legal };
       },
     )
