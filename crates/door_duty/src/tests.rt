@@ -3,9 +3,8 @@ ghost use Rattle.std.specs.Prelude.{◌≡◌, [], IfOk};
 
 use crate::{DoorDuty, HttpDuty, LineDuty};
 use desk_book::{Book, Desk, Naming};
-use link_face::{
-    FixedDay, InTurn, Joined, MemLink, MemSink, MemSource, MemWay, Outcome, Spawner,
-};
+use door_face::{InTurn, MemWay, Outcome, Spawner};
+use link_face::{FixedDay, Joined, MemLink, MemSink, MemSource};
 use policy_table::Policy;
 use reg_entry::{Name, Rooms};
 use snapshot_pub::Pass;
