@@ -32,9 +32,8 @@ pub trait Spawner {
 
     /// Counts a call in which duties came back.
     fn count_back(&mut self)
-        requires { can_refuse ≡ true }
         ensures kept { faults self.old ≤ faults self.new }
-        ensures risen { HasRisen (faults self.old) (faults self.new) };
+        ensures risen { can_refuse ≡ true → HasRisen (faults self.old) (faults self.new) };
 
     /// Works the duties, and tells what became of each, in their order. It returns when all have ended.
     /// A duty that comes back was never begun, and is dropped.
