@@ -1,13 +1,13 @@
 //! A stream of 300 operations, cut once at each place: the two pieces are fed as the whole.
 use super::written;
-use crate::{FeedFault, Mirror};
+use crate::Mirror;
 use std::alloc::{AllocError, Global};
 use std::test::Fail;
 
 const OPERATIONS: u64 = 300;
 
-/// A stream of so many operations, which ends with this line. Every third takes out the object that the one before it brought.
-fn made(alloc: Global, end: &str) -> Result<String, AllocError> {
+/// A stream of so many operations. Every third takes out the object that the one before it brought.
+fn made(alloc: Global) -> Result<String, AllocError> {
     let mut text = format!(in alloc; "%START Version: 3 EXREG 1-{OPERATIONS}\n")?;
     for serial in 1..=OPERATIONS {
         let (act, holder) = if serial % 3 == 0 {
@@ -20,7 +20,7 @@ fn made(alloc: Global, end: &str) -> Result<String, AllocError> {
         )?;
         text.push_str(operation.as_str())?;
     }
-    text.push_str(end)?;
+    text.push_str("\n%END EXREG\n")?;
     Ok(text)
 }
 
@@ -45,32 +45,69 @@ fn are_alike(alloc: Global, one: &Mirror, other: &Mirror) -> Result<bool, AllocE
     )
 }
 
-/// The first cut behind which the mirror is another than that of the whole stream.
-fn first_wrong(alloc: Global, stream: &[u8]) -> Result<Option<usize>, AllocError> {
+/// Whether each cut at a place of this remainder is fed as the whole. A sixth of the places is one test, so that each test is
+/// short.
+fn are_fed_alike(alloc: Global, remainder: usize) -> Result<bool, AllocError> {
+    let stream = made(alloc)?;
+    let stream = stream.as_bytes();
     let whole = fed_cut(alloc, stream, 0)?;
     for cut in 1..=stream.len() {
-        let mirror = fed_cut(alloc, stream, cut)?;
-        if !are_alike(alloc, &mirror, &whole)? {
-            return Ok(Some(cut));
+        if cut % 6 == remainder {
+            let mirror = fed_cut(alloc, stream, cut)?;
+            if !are_alike(alloc, &mirror, &whole)? {
+                return Ok(false);
+            }
         }
     }
-    Ok(None)
+    Ok(true)
 }
 
-/// Whether the whole stream leaves a third of the objects, and this fault.
-fn leaves(alloc: Global, stream: &[u8], fault: Option<FeedFault>) -> Result<bool, AllocError> {
-    let whole = fed_cut(alloc, stream, 0)?;
+#[test]
+fn the_whole_leaves_a_third(rt: HostRuntime) -> Result<(), Fail> {
+    let stream = made(rt.alloc())?;
+    let whole = fed_cut(rt.alloc(), stream.as_bytes(), 0)?;
     let mut count = 0_u64;
     for _ in whole.objects().walk() {
         count = count.saturating_add(1);
     }
-    Ok(count == 100 && whole.serial() == OPERATIONS && whole.fault() == fault)
+    assert_eq!(rt; count, 100);
+    assert_eq!(rt; whole.serial(), OPERATIONS);
+    assert_eq!(rt; whole.fault(), None);
+    Ok(())
 }
 
 #[test]
-fn every_cut_is_fed_alike(rt: HostRuntime) -> Result<(), Fail> {
-    let stream = made(rt.alloc(), "\n%END EXREG\n")?;
-    assert!(rt; leaves(rt.alloc(), stream.as_bytes(), None)?);
-    assert_eq!(rt; first_wrong(rt.alloc(), stream.as_bytes())?, None);
+fn cuts_are_fed_alike_0(rt: HostRuntime) -> Result<(), Fail> {
+    assert!(rt; are_fed_alike(rt.alloc(), 0)?);
+    Ok(())
+}
+
+#[test]
+fn cuts_are_fed_alike_1(rt: HostRuntime) -> Result<(), Fail> {
+    assert!(rt; are_fed_alike(rt.alloc(), 1)?);
+    Ok(())
+}
+
+#[test]
+fn cuts_are_fed_alike_2(rt: HostRuntime) -> Result<(), Fail> {
+    assert!(rt; are_fed_alike(rt.alloc(), 2)?);
+    Ok(())
+}
+
+#[test]
+fn cuts_are_fed_alike_3(rt: HostRuntime) -> Result<(), Fail> {
+    assert!(rt; are_fed_alike(rt.alloc(), 3)?);
+    Ok(())
+}
+
+#[test]
+fn cuts_are_fed_alike_4(rt: HostRuntime) -> Result<(), Fail> {
+    assert!(rt; are_fed_alike(rt.alloc(), 4)?);
+    Ok(())
+}
+
+#[test]
+fn cuts_are_fed_alike_5(rt: HostRuntime) -> Result<(), Fail> {
+    assert!(rt; are_fed_alike(rt.alloc(), 5)?);
     Ok(())
 }
