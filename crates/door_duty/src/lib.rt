@@ -9,8 +9,6 @@ mod line_duty;
 mod line_service;
 mod served;
 mod service;
-#[cfg(test)]
-mod tests;
 
 pub use door_duty::DoorDuty;
 pub use http_duty::HttpDuty;
