@@ -1,5 +1,5 @@
 -- Links served one after another.
-use Rattle.std.proofs.Common.{◌≡◌, ℕ, ◌+◌, ◌-◌, ◌^◌, List, [], ◌∷◌, ◌++◌, length, min, Option, None, Some, IfSome, Ok, refl, sym, ap, ◌∙◌, subst, append_assoc, append-nil, length-append, arith}
+use Rattle.std.proofs.Common.{◌≡◌, ℕ, Bool, ◌+◌, ◌-◌, ◌^◌, List, [], ◌∷◌, ◌++◌, length, min, Option, None, Some, IfSome, Ok, refl, sym, ap, ◌∙◌, subst, append_assoc, append-nil, length-append, arith}
 use Rattle.link_face.specs.declared.failed.Failed.{Failed}
 use Rattle.door_face.specs.Doors.{LinkRecord, more_by, with_last, links_given}
 use mathlib.Core.List.{IsPrefix}
@@ -115,9 +115,10 @@ all_see_more serves each (link ∷ links) before after legal chain =
 
 pub worked : (serves : PlainPass → LinkRecord → PlainPass → Type 0)
     → ((before : PlainPass) (end : LinkRecord) (after : PlainPass) → serves before end after → HasSeenMore before after)
-    → (before : PlainPass) (old : PlainWay) (count : ℕ) (new : PlainWay) (after : PlainPass)
-    → IsLegal before.rooms before.entries → HasServedWay serves before old count new after → IsWorked serves before old count new after
-worked serves each before old count new after legal way = record {
+    → (before : PlainPass) (old : PlainWay) (count : ℕ) (has_failed : Bool) (new : PlainWay) (after : PlainPass)
+    → IsLegal before.rooms before.entries → HasServedWay serves before old count has_failed new after
+    → IsWorked serves before old count has_failed new after
+worked serves each before old count has_failed new after legal way = record {
   along = way;
   more = all_see_more serves each way.0 before after legal way.1.served;
 }

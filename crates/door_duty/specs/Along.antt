@@ -1,5 +1,5 @@
 -- The links along one way, served one after another.
-use Rattle.std.specs.Prelude.{◌≡◌, ℕ, ◌-◌, ◌^◌, ◌⊎◌, List, [], ◌∷◌, ◌++◌, length, min, Option, IfSome, option_map}
+use Rattle.std.specs.Prelude.{◌≡◌, ℕ, ◌-◌, ◌^◌, Bool, true, false, List, [], ◌∷◌, ◌++◌, length, min, Option, IfSome, option_map}
 use Rattle.door_face.specs.declared.door.Door.{Door}
 use Rattle.door_face.specs.Doors.{LinkRecord}
 use Rattle.link_face.specs.Faults.{HasRisen}
@@ -28,21 +28,22 @@ AreServed serves before (link ∷ links) after = (middle : PlainPass) × serves 
 abbrev pub with_more : {X : Type 0} → Option (List X) → List X → Option (List X)
 with_more told more = option_map (λ xs. xs ++ more) told
 
--- the way has no more links than these, or it failed
-abbrev pub HasEnded : PlainWay → List LinkRecord → PlainWay → Type 0
-HasEnded old links new =
-    ((new.faults ≡ old.faults) × IfSome old.links_left (λ n. n ≡ length links)) ⊎ HasRisen old.faults new.faults
+-- the way failed, or it has no more links than these
+abbrev pub HasEnded : Bool → PlainWay → List LinkRecord → PlainWay → Type 0
+HasEnded true old links new = HasRisen old.faults new.faults
+HasEnded false old links new = (new.faults ≡ old.faults) × IfSome old.links_left (λ n. n ≡ length links)
 
 -- the way was served to its end: these are its links, each was served and given back, and their number was counted, up to
 -- the greatest number of the type
 pub record IsWayServed (serves : PlainPass → LinkRecord → PlainPass → Type 0) (before : PlainPass) (old : PlainWay) (count : ℕ)
-    (new : PlainWay) (after : PlainPass) (links : List LinkRecord) : Type 0 where
+    (has_failed : Bool) (new : PlainWay) (after : PlainPass) (links : List LinkRecord) : Type 0 where
   pub served : AreServed serves before links after
   pub returned : new.returned ≡ with_more old.returned links
   pub number : count ≡ min (length links) (2 ^ 64 - 1)
-  pub end : HasEnded old links new
+  pub end : HasEnded has_failed old links new
   pub lent : new.lent ≡ old.lent
   pub place : (new.door ≡ old.door) × (new.port ≡ old.port)
 
-abbrev pub HasServedWay : (PlainPass → LinkRecord → PlainPass → Type 0) → PlainPass → PlainWay → ℕ → PlainWay → PlainPass → Type 0
-HasServedWay serves before old count new after = (links : List LinkRecord) × IsWayServed serves before old count new after links
+abbrev pub HasServedWay : (PlainPass → LinkRecord → PlainPass → Type 0) → PlainPass → PlainWay → ℕ → Bool → PlainWay → PlainPass → Type 0
+HasServedWay serves before old count has_failed new after =
+    (links : List LinkRecord) × IsWayServed serves before old count has_failed new after links

@@ -1,5 +1,5 @@
 -- A link that was served, and what the pass has seen by then.
-use Rattle.std.specs.Prelude.{◌≡◌, ◌≢◌, ◌⊎◌, ℕ, List, Option}
+use Rattle.std.specs.Prelude.{◌≡◌, ◌≢◌, ◌⊎◌, ℕ, Bool, List, Option}
 use Rattle.std.specs.Io.KnownBytes.{IsAtEnd}
 use mathlib.Core.List.{IsPrefix}
 use Rattle.door_face.specs.Doors.{LinkRecord, IsFresh}
@@ -65,7 +65,7 @@ HasServedLine registry before end after =
 -- ---- a way
 
 -- the way was served to its end with the pass
-pub record IsWorked (serves : PlainPass → LinkRecord → PlainPass → Type 0) (before : PlainPass) (old : PlainWay) (count : ℕ) (new : PlainWay)
-    (after : PlainPass) : Type 0 where
-  pub along : HasServedWay serves before old count new after
+pub record IsWorked (serves : PlainPass → LinkRecord → PlainPass → Type 0) (before : PlainPass) (old : PlainWay) (count : ℕ) (has_failed : Bool)
+    (new : PlainWay) (after : PlainPass) : Type 0 where
+  pub along : HasServedWay serves before old count has_failed new after
   pub more : HasSeenMore before after

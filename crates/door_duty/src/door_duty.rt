@@ -28,14 +28,14 @@ impl<W: Way + Send, N: Naming + Send, R: Wait + Drop + Send, C: Clock + Sync> Du
           (λ before end after. HasServedConnection (among_others before.rooms duty.policy.now (C.states duty.clock.now)) before end after)
           duty.pass
           (plain_way (W.door duty.way) (W.port duty.way) (W.links_left duty.way) (W.lent duty.way) (W.returned duty.way) (W.faults duty.way))
-          served.connections
+          served.connections served.has_failed
           (plain_way (W.door served.way) (W.port served.way) (W.links_left served.way) (W.lent served.way) (W.returned served.way) (W.faults served.way))
           served.pass
       | Line duty ↦ λ served. IsWorked
           (λ before end after. HasServedLine duty.registry.now before end after)
           duty.pass
           (plain_way (W.door duty.way) (W.port duty.way) (W.links_left duty.way) (W.lent duty.way) (W.returned duty.way) (W.faults duty.way))
-          served.connections
+          served.connections served.has_failed
           (plain_way (W.door served.way) (W.port served.way) (W.links_left served.way) (W.lent served.way) (W.returned served.way) (W.faults served.way))
           served.pass
     ] };

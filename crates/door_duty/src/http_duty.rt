@@ -36,7 +36,7 @@ impl<W: Way, N: Naming, R: Wait + Drop, C: Clock> HttpDuty<'_, W, N, R, C> {
             (λ before end after. HasServedConnection (among_others before.rooms self.entry.policy.now (C.states self.entry.clock.now)) before end after)
             self.entry.pass
             (plain_way (W.door self.entry.way) (W.port self.entry.way) (W.links_left self.entry.way) (W.lent self.entry.way) (W.returned self.entry.way) (W.faults self.entry.way))
-            result.connections
+            result.connections result.has_failed
             (plain_way (W.door result.way) (W.port result.way) (W.links_left result.way) (W.lent result.way) (W.returned result.way) (W.faults result.way))
             result.pass }
     {
@@ -59,12 +59,13 @@ impl<W: Way, N: Naming, R: Wait + Drop, C: Clock> HttpDuty<'_, W, N, R, C> {
             policy,
             clock,
         };
-        let connections = serve_way(rt, &mut way, &mut service);
+        let end = serve_way(rt, &mut way, &mut service);
         let HttpService { pass, .. } = service;
         Served {
             pass,
             way,
-            connections,
+            connections: end.connections,
+            has_failed: end.has_failed,
         }
     }
 }

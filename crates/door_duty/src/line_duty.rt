@@ -27,7 +27,7 @@ impl<W: Way> LineDuty<'_, W> {
             (λ before end after. HasServedLine self.entry.registry.now before end after)
             self.entry.pass
             (plain_way (W.door self.entry.way) (W.port self.entry.way) (W.links_left self.entry.way) (W.lent self.entry.way) (W.returned self.entry.way) (W.faults self.entry.way))
-            result.connections
+            result.connections result.has_failed
             (plain_way (W.door result.way) (W.port result.way) (W.links_left result.way) (W.lent result.way) (W.returned result.way) (W.faults result.way))
             result.pass }
     {
@@ -44,12 +44,13 @@ impl<W: Way> LineDuty<'_, W> {
             pass,
             registry,
         };
-        let connections = serve_way(rt, &mut way, &mut service);
+        let end = serve_way(rt, &mut way, &mut service);
         let LineService { pass, .. } = service;
         Served {
             pass,
             way,
-            connections,
+            connections: end.connections,
+            has_failed: end.has_failed,
         }
     }
 }
