@@ -1,5 +1,5 @@
 -- Words and the command that they are, both ways.
-use Rattle.std.proofs.Common.{◌≡◌, ◌∙◌, ℕ, ◌-◌, ◌^◌, ◌<◌, ◌≤◌, List, [], ◌∷◌, Option, Some, None, decimal, refl, sym, ap, ap₂, subst, codes, arith}
+use Rattle.std.proofs.Common.{◌≡◌, ◌∙◌, ℕ, ◌-◌, ◌^◌, ◌<◌, ◌≤◌, List, [], ◌∷◌, Option, Some, decimal, refl, sym, ap, ap₂, subst, codes, arith}
 use Rattle.std.proofs.lemmas.Option.{none-some, option_and_then_some, same_Some}
 use Rattle.std.specs.Prelude.{option_and_then, unwrap_or}
 use Rattle.addr_text.specs.Reading.{decimal_up_to}
