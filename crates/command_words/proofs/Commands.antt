@@ -14,11 +14,11 @@ use Rattle.clap.specs.Faults.{fault_of, is_simple_and_free, level_fault, walk_fa
 use Rattle.clap.specs.declared.error.kind.ErrorKind.TheVariants.{MissingRequiredArgument, OutOfMemory}
 use Rattle.clap.proofs.OnLiterals.{clap_on_literals}
 use Rattle.command_words.specs.declared.command.Command.{Command}
-use Rattle.command_words.specs.declared.command.Command.TheVariants.{Batch, Publish, Mirror, Load}
+use Rattle.command_words.specs.declared.command.Command.TheVariants.{Batch, Serve, Publish, Mirror, Load}
 use Rattle.command_words.specs.declared.command.Publication.TheVariants.{Statistics, Zones}
-use Rattle.command_words.specs.Command.{alone, command_of, load_by, load_of}
-use Rattle.command_words.specs.Table.{begins_with_hyphen, command_in_row, command_met, load_in, row, table}
-use Rattle.command_words.proofs.Decimals.{hyphen_is_none}
+use Rattle.command_words.specs.Command.{alone, command_of, load_by, load_of, positive_up_to, serve_by, serve_of}
+use Rattle.command_words.specs.Table.{begins_with_hyphen, command_in_row, command_met, load_in, row, serve_in, table}
+use Rattle.command_words.proofs.Decimals.{hyphen_is_no_positive, hyphen_is_none}
 use Rattle.command_words.proofs.Walks.{IsFault, after_walk, enters_fault, enters_rows, goes_on, level_fails, none_then, strays, walk_at}
 
 -- ---- what `clap` and the definition say of the words
@@ -42,6 +42,16 @@ unfolding clap_on_literals
 enters_batch rest = record {
   fault = enters_fault (built table) (codes "batch") (leaf (codes "batch") []) rest refl refl refl ∙ none_then (level_fault (leaf (codes "batch") []) [] nothing_held rest false []);
   rows = enters_rows (built table) (codes "batch") (leaf (codes "batch") []) rest refl refl refl;
+}
+
+abbrev serves : Shape
+serves = leaf (codes "serve") (codes "HTTP" ∷ codes "LINE" ∷ codes "WORKERS" ∷ [])
+
+enters_serve : (rest : List Text) → Enters (codes "serve") (codes "HTTP" ∷ codes "LINE" ∷ codes "WORKERS" ∷ []) rest
+unfolding clap_on_literals
+enters_serve rest = record {
+  fault = enters_fault (built table) (codes "serve") serves rest refl refl refl ∙ none_then (level_fault serves [] nothing_held rest false []);
+  rows = enters_rows (built table) (codes "serve") serves rest refl refl refl;
 }
 
 enters_stats : (rest : List Text) → Enters (codes "stats") [] rest
@@ -162,6 +172,100 @@ load_agrees (seed ∷ requests ∷ text ∷ rest) plain =
     let last = none_of (begins_with_hyphen text) (list_any begins_with_hyphen rest) next.1 in
     inr (subst IsFault (sym (enters_load (seed ∷ requests ∷ text ∷ rest)).fault) (three_texts seed requests text rest first.0 next.0 last.0), refl)
 
+-- ---- the doors
+
+-- what is held behind the port of the one door, of the other, and behind the number of workers
+abbrev behind_http : Text → Held
+behind_http http = pushed (codes "HTTP") http nothing_held
+
+abbrev behind_line : Text → Text → Held
+behind_line http line = pushed (codes "LINE") line (settled serves.rules (behind_http http))
+
+abbrev behind_workers : Text → Text → Text → Held
+behind_workers http line workers = pushed (codes "WORKERS") workers (settled serves.rules (behind_line http line))
+
+http_goes : (http : Text) (rest : List Text) → begins_with_hyphen http ≡ false
+    → (walk_fault serves [] (walk_from nothing_held) (http ∷ rest) ≡ walk_fault serves [] (walk_at 2 (behind_http http)) rest)
+    × (walked serves.rules [] (walk_from nothing_held) http ≡ walk_at 2 (behind_http http))
+unfolding clap_on_literals
+http_goes http rest plain = goes_on serves 1 2 http nothing_held (behind_http http) rest plain refl refl
+
+line_goes : (http line : Text) (rest : List Text) → begins_with_hyphen line ≡ false
+    → (walk_fault serves [] (walk_at 2 (behind_http http)) (line ∷ rest) ≡ walk_fault serves [] (walk_at 3 (behind_line http line)) rest)
+    × (walked serves.rules [] (walk_at 2 (behind_http http)) line ≡ walk_at 3 (behind_line http line))
+unfolding clap_on_literals
+line_goes http line rest plain = goes_on serves 2 3 line (behind_http http) (behind_line http line) rest plain refl refl
+
+workers_go : (http line workers : Text) (rest : List Text) → begins_with_hyphen workers ≡ false
+    → (walk_fault serves [] (walk_at 3 (behind_line http line)) (workers ∷ rest) ≡ walk_fault serves [] (walk_at 4 (behind_workers http line workers)) rest)
+    × (walked serves.rules [] (walk_at 3 (behind_line http line)) workers ≡ walk_at 4 (behind_workers http line workers))
+unfolding clap_on_literals
+workers_go http line workers rest plain = goes_on serves 3 4 workers (behind_line http line) (behind_workers http line workers) rest plain refl refl
+
+-- one text is too few, and so are two
+one_port : (http : Text) → begins_with_hyphen http ≡ false → level_fault serves [] nothing_held (http ∷ []) false [] ≡ MissingRequiredArgument ∷ []
+unfolding clap_on_literals
+one_port http plain =
+    let on = http_goes http [] plain in
+    ap₂ (λ (k : Kinds) (w : Walk). or_else k (after_walk serves false [] w)) on.0 on.1
+
+two_ports : (http line : Text) → begins_with_hyphen http ≡ false → begins_with_hyphen line ≡ false
+    → level_fault serves [] nothing_held (http ∷ line ∷ []) false [] ≡ MissingRequiredArgument ∷ []
+unfolding clap_on_literals
+two_ports http line plain plain_too =
+    let on = http_goes http (line ∷ []) plain in
+    let then = line_goes http line [] plain_too in
+    ap₂ (λ (k : Kinds) (w : Walk). or_else k (after_walk serves false [] w)) (on.0 ∙ then.0) (ap (λ (w : Walk). walked serves.rules [] w line) on.1 ∙ then.1)
+
+ports_and_workers : (http line workers : Text) → begins_with_hyphen http ≡ false → begins_with_hyphen line ≡ false → begins_with_hyphen workers ≡ false
+    → (level_fault serves [] nothing_held (http ∷ line ∷ workers ∷ []) false [] ≡ [])
+    × (command_in_row (codes "serve") (rows_after serves.rules [] (http ∷ line ∷ workers ∷ [])) ≡ serve_by http line workers)
+unfolding clap_on_literals serve_in
+ports_and_workers http line workers plain plain_too plain_as_well =
+    let on = http_goes http (line ∷ workers ∷ []) plain in
+    let then = line_goes http line (workers ∷ []) plain_too in
+    let last = workers_go http line workers [] plain_as_well in
+    let end : walk serves.rules [] nothing_held (http ∷ line ∷ workers ∷ []) ≡ walk_at 4 (behind_workers http line workers) =
+    ap (λ (w : Walk). walked serves.rules [] (walked serves.rules [] w line) workers) on.1 ∙ ap (λ (w : Walk). walked serves.rules [] w workers) then.1 ∙ last.1 in (
+      ap₂ (λ (k : Kinds) (w : Walk). or_else k (after_walk serves false [] w)) (on.0 ∙ then.0 ∙ last.0) end,
+      ap (λ (w : Walk). command_in_row (codes "serve") (finished serves.rules w.held)) end,
+    )
+
+-- and four are too many
+word_behind_workers : (http line workers text : Text) (rest : List Text)
+    → begins_with_hyphen http ≡ false → begins_with_hyphen line ≡ false → begins_with_hyphen workers ≡ false → begins_with_hyphen text ≡ false
+    → IsFault (level_fault serves [] nothing_held (http ∷ line ∷ workers ∷ text ∷ rest) false [])
+unfolding clap_on_literals
+word_behind_workers http line workers text rest plain plain_too plain_as_well plain_last =
+    level_fails serves [] (http ∷ line ∷ workers ∷ text ∷ rest) false []
+    (subst IsFault (sym ((http_goes http (line ∷ workers ∷ text ∷ rest) plain).0 ∙ (line_goes http line (workers ∷ text ∷ rest) plain_too).0
+    ∙ (workers_go http line workers (text ∷ rest) plain_as_well).0))
+    (strays serves [] 4 text (behind_workers http line workers) rest plain_last refl refl tt))
+
+serve_agrees : (rest : List Text) → list_any begins_with_hyphen rest ≡ false → Agrees (codes "serve" ∷ rest)
+unfolding clap_on_literals
+serve_agrees [] plain = inr (subst IsFault (sym (enters_serve []).fault) tt, refl)
+serve_agrees (http ∷ []) plain =
+    let first = none_of (begins_with_hyphen http) false plain in
+    inr (subst IsFault (sym ((enters_serve (http ∷ [])).fault ∙ one_port http first.0)) tt, refl)
+serve_agrees (http ∷ line ∷ []) plain =
+    let first = none_of (begins_with_hyphen http) (begins_with_hyphen line || false) plain in
+    let next = none_of (begins_with_hyphen line) false first.1 in
+    inr (subst IsFault (sym ((enters_serve (http ∷ line ∷ [])).fault ∙ two_ports http line first.0 next.0)) tt, refl)
+serve_agrees (http ∷ line ∷ workers ∷ []) plain =
+    let first = none_of (begins_with_hyphen http) (begins_with_hyphen line || (begins_with_hyphen workers || false)) plain in
+    let next = none_of (begins_with_hyphen line) (begins_with_hyphen workers || false) first.1 in
+    let last = none_of (begins_with_hyphen workers) false next.1 in
+    let all = ports_and_workers http line workers first.0 next.0 last.0 in
+    let enters = enters_serve (http ∷ line ∷ workers ∷ []) in
+    inl (enters.fault ∙ all.0, ap command_met enters.rows ∙ all.1)
+serve_agrees (http ∷ line ∷ workers ∷ text ∷ rest) plain =
+    let first = none_of (begins_with_hyphen http) (list_any begins_with_hyphen (line ∷ workers ∷ text ∷ rest)) plain in
+    let next = none_of (begins_with_hyphen line) (list_any begins_with_hyphen (workers ∷ text ∷ rest)) first.1 in
+    let then = none_of (begins_with_hyphen workers) (list_any begins_with_hyphen (text ∷ rest)) next.1 in
+    let last = none_of (begins_with_hyphen text) (list_any begins_with_hyphen rest) then.1 in
+    inr (subst IsFault (sym (enters_serve (http ∷ line ∷ workers ∷ text ∷ rest)).fault) (word_behind_workers http line workers text rest first.0 next.0 then.0 last.0), refl)
+
 -- ---- all rows
 
 -- what holds of a row's word, and of each word that isn't it
@@ -182,21 +286,23 @@ differs word name e = go (bytes_eq name word) refl
 -- a word is no row's
 pub record IsNoRow (word : Text) : Type 0 where
   pub batch : bytes_eq word (codes "batch") ≡ false
+  pub serve : bytes_eq word (codes "serve") ≡ false
   pub stats : bytes_eq word (codes "stats") ≡ false
   pub zones : bytes_eq word (codes "zones") ≡ false
   pub mirror : bytes_eq word (codes "mirror") ≡ false
   pub load : bytes_eq word (codes "load") ≡ false
 
 -- what holds of each row's word and of all others
-pub by_rows : (P : Text → Type 0) (word : Text) → P (codes "batch") → P (codes "stats") → P (codes "zones") → P (codes "mirror") → P (codes "load")
+pub by_rows : (P : Text → Type 0) (word : Text) → P (codes "batch") → P (codes "serve") → P (codes "stats") → P (codes "zones") → P (codes "mirror") → P (codes "load")
     → (IsNoRow word → P word) → P word
-by_rows P word batch stats zones mirror load other =
+by_rows P word batch serve stats zones mirror load other =
     by_row P (codes "batch") word batch (λ b.
+    by_row P (codes "serve") word serve (λ v.
     by_row P (codes "stats") word stats (λ s.
     by_row P (codes "zones") word zones (λ z.
     by_row P (codes "mirror") word mirror (λ m.
     by_row P (codes "load") word load (λ l.
-    other (record { batch = b; stats = s; zones = z; mirror = m; load = l }))))))
+    other (record { batch = b; serve = v; stats = s; zones = z; mirror = m; load = l })))))))
 
 none_found : (word : Text) (n : Text × List Text) (names : Names) → answers_to word n ≡ false → find (answers_to word) names ≡ None
     → find (answers_to word) (n ∷ names) ≡ None
@@ -208,12 +314,14 @@ is_unnamed word not =
     let mirror = none_found word (codes "mirror", []) ((codes "load", []) ∷ []) (differs word (codes "mirror") not.mirror) load in
     let zones = none_found word (codes "zones", []) ((codes "mirror", []) ∷ (codes "load", []) ∷ []) (differs word (codes "zones") not.zones) mirror in
     let stats = none_found word (codes "stats", []) ((codes "zones", []) ∷ (codes "mirror", []) ∷ (codes "load", []) ∷ []) (differs word (codes "stats") not.stats) zones in
-    let batch = none_found word (codes "batch", []) ((codes "stats", []) ∷ (codes "zones", []) ∷ (codes "mirror", []) ∷ (codes "load", []) ∷ [])
-    (differs word (codes "batch") not.batch) stats in
+    let serve = none_found word (codes "serve", []) ((codes "stats", []) ∷ (codes "zones", []) ∷ (codes "mirror", []) ∷ (codes "load", []) ∷ [])
+    (differs word (codes "serve") not.serve) stats in
+    let batch = none_found word (codes "batch", []) ((codes "serve", []) ∷ (codes "stats", []) ∷ (codes "zones", []) ∷ (codes "mirror", []) ∷ (codes "load", []) ∷ [])
+    (differs word (codes "batch") not.batch) serve in
     ap (option_map (λ (n : Text × List Text). n.0)) batch
 
 pub is_no_command : (word : Text) (rest : List Text) → IsNoRow word → command_of (word ∷ rest) ≡ None
-is_no_command word rest not = rw (not.batch, not.stats, not.zones, not.mirror, not.load) refl
+is_no_command word rest not = rw (not.batch, not.serve, not.stats, not.zones, not.mirror, not.load) refl
 
 other_agrees : (word : Text) (rest : List Text) → begins_with_hyphen word ≡ false → IsNoRow word → Agrees (word ∷ rest)
 other_agrees word rest plain not =
@@ -231,6 +339,7 @@ words_agree (word ∷ rest) plain =
     let both = none_of (begins_with_hyphen word) (list_any begins_with_hyphen rest) plain in
     by_rows (λ w. Agrees (w ∷ rest)) word
     (alone_agrees (codes "batch") Batch rest both.1 (enters_batch rest) (λ rows. refl) refl)
+    (serve_agrees rest both.1)
     (alone_agrees (codes "stats") (Publish Statistics) rest both.1 (enters_stats rest) (λ rows. refl) refl)
     (alone_agrees (codes "zones") (Publish Zones) rest both.1 (enters_zones rest) (λ rows. refl) refl)
     (alone_agrees (codes "mirror") Mirror rest both.1 (enters_mirror rest) (λ rows. refl) refl)
@@ -261,22 +370,38 @@ alone_is_none : (command : Command) (texts : List Text) → list_any begins_with
 alone_is_none command [] option = absurd (true≢false (sym option))
 alone_is_none command (text ∷ texts) option = refl
 
+-- nothing comes of a text that begins with `-`, nor where nothing comes of the texts behind it
+none_comes : {B : Type 0} (hyphen others : Bool) (found : Option ℕ) (f : ℕ → Option B) → (hyphen ≡ true → found ≡ None) → (others ≡ true → (n : ℕ) → f n ≡ None)
+    → (hyphen || others) ≡ true → option_and_then f found ≡ None
+none_comes true others found f first behind option = ap (option_and_then f) (first refl)
+none_comes false others None f first behind option = refl
+none_comes false others (Some n) f first behind option = behind option n
+
+serves_none : (http line workers : Text) → (begins_with_hyphen http || (begins_with_hyphen line || (begins_with_hyphen workers || false))) ≡ true
+    → serve_by http line workers ≡ None
+unfolding serve_by
+serves_none http line workers option =
+    none_comes (begins_with_hyphen http) (begins_with_hyphen line || (begins_with_hyphen workers || false)) (positive_up_to 65535 http) _
+    (hyphen_is_no_positive 65535 http (omega arith)) (λ behind h.
+    none_comes (begins_with_hyphen line) (begins_with_hyphen workers || false) (positive_up_to 65535 line) _
+    (hyphen_is_no_positive 65535 line (omega arith)) (λ last l.
+    none_comes (begins_with_hyphen workers) false (positive_up_to 16 workers) (λ w. Some (Serve h l w))
+    (hyphen_is_no_positive 16 workers (omega arith)) (λ none. absurd (true≢false (sym none))) last) behind) option
+
+serve_is_none : (texts : List Text) → list_any begins_with_hyphen texts ≡ true → serve_of texts ≡ None
+serve_is_none [] option = refl
+serve_is_none (http ∷ []) option = refl
+serve_is_none (http ∷ line ∷ []) option = refl
+serve_is_none (http ∷ line ∷ workers ∷ []) option = serves_none http line workers option
+serve_is_none (http ∷ line ∷ workers ∷ text ∷ rest) option = refl
+
 loads_none : (seed requests : Text) → (begins_with_hyphen seed || (begins_with_hyphen requests || false)) ≡ true → load_by seed requests ≡ None
 unfolding load_by
-loads_none seed requests option = go (begins_with_hyphen seed) refl option
-  where
-    last : (b : Bool) → begins_with_hyphen requests ≡ b → (b || false) ≡ true → decimal_up_to 900000 requests ≡ None
-    last true e option = hyphen_is_none 900000 requests (omega arith) e
-    last false e option = absurd (true≢false (sym option))
-
-    behind : (o : Option ℕ) → decimal_up_to 900000 requests ≡ None → option_and_then (λ s. option_and_then (λ n. Some (Load s n)) (decimal_up_to 900000 requests)) o ≡ None
-    behind None none = refl
-    behind (Some s) none = ap (option_and_then (λ n. Some (Load s n))) none
-
-    go : (b : Bool) → begins_with_hyphen seed ≡ b → (b || (begins_with_hyphen requests || false)) ≡ true → load_by seed requests ≡ None
-    go true e option =
-        ap (option_and_then (λ s. option_and_then (λ n. Some (Load s n)) (decimal_up_to 900000 requests))) (hyphen_is_none (2 ^ 64 - 1) seed (omega arith) e)
-    go false e option = behind (decimal_up_to (2 ^ 64 - 1) seed) (last (begins_with_hyphen requests) refl option)
+loads_none seed requests option =
+    none_comes (begins_with_hyphen seed) (begins_with_hyphen requests || false) (decimal_up_to (2 ^ 64 - 1) seed) _
+    (hyphen_is_none (2 ^ 64 - 1) seed (omega arith)) (λ behind s.
+    none_comes (begins_with_hyphen requests) false (decimal_up_to 900000 requests) (λ n. Some (Load s n))
+    (hyphen_is_none 900000 requests (omega arith)) (λ none. absurd (true≢false (sym none))) behind) option
 
 load_is_none : (texts : List Text) → list_any begins_with_hyphen texts ≡ true → load_of texts ≡ None
 load_is_none [] option = refl
@@ -290,6 +415,7 @@ option_is_none [] option = refl
 option_is_none (word ∷ rest) option =
     by_rows (λ w. (begins_with_hyphen w || list_any begins_with_hyphen rest) ≡ true → command_of (w ∷ rest) ≡ None) word
     (alone_is_none Batch rest)
+    (serve_is_none rest)
     (alone_is_none (Publish Statistics) rest)
     (alone_is_none (Publish Zones) rest)
     (alone_is_none Mirror rest)

@@ -8,7 +8,7 @@ use Rattle.clap.specs.Simple.{Shape, App, new_rule, new_shape}
 use Rattle.command_words.specs.declared.command.Command.{Command}
 use Rattle.command_words.specs.declared.command.Command.TheVariants.{Batch, Publish, Mirror}
 use Rattle.command_words.specs.declared.command.Publication.TheVariants.{Statistics, Zones}
-use Rattle.command_words.specs.Command.{load_by}
+use Rattle.command_words.specs.Command.{load_by, serve_by}
 
 abbrev pub begins_with_hyphen : Text → Bool
 begins_with_hyphen [] = false
@@ -32,12 +32,21 @@ table = record {
     subcommand_required = true;
   };
   subs = row (codes "batch") []
+      ∷ row (codes "serve") (codes "HTTP" ∷ codes "LINE" ∷ codes "WORKERS" ∷ [])
       ∷ row (codes "stats") []
       ∷ row (codes "zones") []
       ∷ row (codes "mirror") []
       ∷ row (codes "load") (codes "SEED" ∷ codes "N" ∷ [])
       ∷ [];
 }
+
+-- the doors of the texts that were found
+unfoldable pub serve_in : List Row → Option Command
+serve_in rows = do
+  http ← first_of (codes "HTTP") rows
+  line ← first_of (codes "LINE") rows
+  workers ← first_of (codes "WORKERS") rows
+  serve_by http line workers
 
 -- the load of the texts that were found
 unfoldable pub load_in : List Row → Option Command
@@ -50,11 +59,12 @@ load_in rows = do
 abbrev pub command_in_row : Text → List Row → Option Command
 command_in_row word rows =
     if bytes_eq word (codes "batch") then Some Batch
+    else (if bytes_eq word (codes "serve") then serve_in rows
     else (if bytes_eq word (codes "stats") then Some (Publish Statistics)
     else (if bytes_eq word (codes "zones") then Some (Publish Zones)
     else (if bytes_eq word (codes "mirror") then Some Mirror
     else (if bytes_eq word (codes "load") then load_in rows
-    else None))))
+    else None)))))
 
 -- the same of what `clap` found, where it found a row
 abbrev pub command_met : Option (Text × List Row) → Option Command

@@ -4,10 +4,10 @@ ghost use Rattle.std.specs.List.{list_any};
 ghost use Rattle.std.specs.Option.{option_map};
 ghost use Rattle.std.specs.String.{string_bytes};
 ghost use Rattle.clap.specs.Words.{rows_of, found_of, first_of, subcommand_rows_of};
-ghost use Rattle.command_words.specs.Command.{command_of, load_by};
-ghost use Rattle.command_words.specs.Table.{begins_with_hyphen, command_in_row, command_met, load_in};
+ghost use Rattle.command_words.specs.Command.{command_of, load_by, serve_by};
+ghost use Rattle.command_words.specs.Table.{begins_with_hyphen, command_in_row, command_met, load_in, serve_in};
 
-use crate::number::{read_number, read_number_up_to};
+use crate::number::{read_number, read_number_up_to, read_port, read_workers};
 use crate::table::table;
 use clap::ArgMatches;
 use clap::error::ErrorKind;
@@ -30,6 +30,8 @@ pub enum Publication {
 pub enum Command {
     /// To answer a script line by line.
     Batch,
+    /// To serve both doors of a register at these ports, with so many workers a door.
+    Serve { http: u16, line: u16, workers: u8 },
     /// To write what is published of the register that a script leaves.
     Publish(Publication),
     /// To feed a script to a mirror, and to write the objects that it holds then.
@@ -62,6 +64,32 @@ fn text_of<'a>(texts: &ArgMatches<'a>, name: &str) -> Option<&'a [u8]>
     }
 }
 
+/// The doors at two ports, with a number of workers.
+#[tactic(auto, unfolding(crate::specs::Command::serve_by))]
+fn read_serve(http: &[u8], line: &[u8], workers: &[u8]) -> Option<Command>
+    ensures { result ≡ serve_by http.now line.now workers.now }
+{
+    let http = read_port(http)?;
+    let line = read_port(line)?;
+    let workers = read_workers(workers)?;
+    Some(Command::Serve {
+        http,
+        line,
+        workers,
+    })
+}
+
+/// The doors of the texts that were found.
+#[tactic(auto, unfolding(crate::specs::Table::serve_in))]
+fn read_serve_of(texts: &ArgMatches<'_>) -> Option<Command>
+    ensures { result ≡ serve_in (rows_of (found_of texts.now)) }
+{
+    let http = text_of(texts, "HTTP")?;
+    let line = text_of(texts, "LINE")?;
+    let workers = text_of(texts, "WORKERS")?;
+    read_serve(http, line, workers)
+}
+
 /// The load of a seed and a number of requests.
 #[tactic(auto, unfolding(crate::specs::Command::load_by))]
 fn read_load(seed: &[u8], requests: &[u8]) -> Option<Command>
@@ -89,6 +117,8 @@ impl Command {
     {
         if word == "batch" {
             Some(Command::Batch)
+        } else if word == "serve" {
+            read_serve_of(texts)
         } else if word == "stats" {
             Some(Command::Publish(Publication::Statistics))
         } else if word == "zones" {

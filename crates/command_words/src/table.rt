@@ -26,6 +26,12 @@ pub(crate) fn table<'a>(alloc: Global) -> Result<Command<'a>, AllocError>
         .disable_help_subcommand(true)
         .subcommand_required(true)
         .subcommand(Command::new(alloc, "batch"))?
+        .subcommand(
+            Command::new(alloc, "serve")
+                .arg(text(alloc, "HTTP"))?
+                .arg(text(alloc, "LINE"))?
+                .arg(text(alloc, "WORKERS"))?,
+        )?
         .subcommand(Command::new(alloc, "stats"))?
         .subcommand(Command::new(alloc, "zones"))?
         .subcommand(Command::new(alloc, "mirror"))?
