@@ -37,7 +37,7 @@ feed_fault_text feed_faults.NoMemory = codes "NoMemory"
 
 abbrev pub fault_text : Exit → List ℕ
 fault_text Done = []
-fault_text Usage = codes "usage: registry_main batch | stats | zones | mirror"
+fault_text Usage = codes "usage: registry_main batch | stats | zones | mirror | load SEED N"
 fault_text (PolicyRefused fault) = codes "policy: " ++ policy_fault_text fault
 fault_text ReadFault = codes "read fault"
 fault_text WriteFault = codes "write fault"

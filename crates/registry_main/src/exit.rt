@@ -52,7 +52,7 @@ impl fmt::Display for Exit {
     fn fmt<W: fmt::Write>(&self, f: &mut fmt::Formatter<W>) -> fmt::Result {
         match self {
             Exit::Done => Ok(()),
-            Exit::Usage => f.write_str("usage: registry_main batch | stats | zones | mirror"),
+            Exit::Usage => f.write_str("usage: registry_main batch | stats | zones | mirror | load SEED N"),
             Exit::PolicyRefused(PolicyFault::TooLong) => f.write_str("policy: too long"),
             Exit::PolicyRefused(PolicyFault::Text) => f.write_str("policy: text"),
             Exit::PolicyRefused(PolicyFault::Missing(key)) => write!(f, "policy: missing {key}"),

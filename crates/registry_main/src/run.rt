@@ -27,29 +27,33 @@ ghost use Rattle.mirror_core.specs.Feed.{fed};
 ghost use Rattle.mirror_laws.specs.Feed.{IsFeedOf, last_serial};
 ghost use Rattle.mirror_laws.specs.Follows.{Follows};
 ghost use Rattle.mirror_laws.specs.Forms.{ArePublished};
+ghost use Rattle.load_gen.specs.Load.{loaded};
 ghost use Rattle.registry_main.specs.Session.{rooms, entries_after, register_over};
 ghost use Rattle.registry_main.specs.Batch.{known, IsAnswered};
-ghost use Rattle.registry_main.specs.Command.{command_of};
+ghost use Rattle.command_words.specs.Command.{command_of};
 ghost use Rattle.registry_main.specs.PolicyBytes.{policy_front, IsSaid, IfSaid};
 ghost use Rattle.registry_main.specs.Published.{IsPublished};
 ghost use Rattle.registry_main.specs.Mirror.{mirror_of, IsMirrored};
-ghost use Rattle.registry_main.specs.declared.command.Command.TheVariants.{Batch, Publish, Mirror};
-ghost use Rattle.registry_main.specs.declared.command.Publication.{Publication};
-ghost use Rattle.registry_main.specs.declared.command.Publication.TheVariants.{Statistics};
+ghost use Rattle.registry_main.specs.Load.{IsLoaded, reads_script};
+ghost use Rattle.command_words.specs.declared.command.Command.TheVariants.{Batch, Publish, Mirror, Load};
+ghost use Rattle.command_words.specs.declared.command.Publication.{Publication};
+ghost use Rattle.command_words.specs.declared.command.Publication.TheVariants.{Statistics};
 ghost use Rattle.registry_main.specs.declared.exit.Exit.TheVariants.{Done, Usage, PolicyRefused, ReadFault, WriteFault, NoMemory, FeedRefused};
 
 use crate::batch::{Stop, answer_script};
-use crate::command::Command;
+use command_words::Command;
 use crate::exit::Exit;
 use crate::laws::{
     accepted_entries_are_legal, answers_are_least, mirrors_follow_registers, scripts_conserve,
     statistics_conserve, zones_are_delegated,
 };
+use crate::load::answer_load;
 use crate::mirror::answer_mirror;
 use crate::policy_bytes::{NoPolicy, read_policy};
 use crate::publish::answer_publication;
 use crate::session::Session;
 use link_face::{Clock, Sink, Source};
+use load_run::laws::loads_conserve;
 use policy_table::Policy;
 use std::alloc::Global;
 
@@ -86,7 +90,7 @@ fn answer_batch<T: Source, K: Sink, C: Clock>(
 
 /// Does what the words say, by the rules of the policy: `batch` answers the script line by line; `stats` and `zones` write
 /// the statistics file and the reverse zones of the register that the script leaves; `mirror` feeds the script to a mirror, and
-/// writes its objects.
+/// writes its objects; `load` writes the summary of a load.
 pub fn run<R: AllocGlobal, S: Source, T: Source, K: Sink, C: Clock>(
     rt: &R,
     words: &[String],
@@ -95,9 +99,11 @@ pub fn run<R: AllocGlobal, S: Source, T: Source, K: Sink, C: Clock>(
     out: &mut K,
     clock: &mut C,
 ) -> Exit
-    // The words are refused exactly where they are no command, and then nothing is read and nothing written.
-    ensures usage { (result ≡ Usage) ↔ (command_of (map string_bytes words.now) ≡ None) }
-    ensures untouched { result ≡ Usage → (policy.new ≡ policy.old) × (script.new ≡ script.old) × (out.new ≡ out.old) }
+    // The words are refused where they are no command and nowhere else, unless there is no memory to read them. Then nothing is
+    // read and nothing written.
+    ensures usage { result ≡ Usage → command_of (map string_bytes words.now) ≡ None }
+    ensures untouched { command_of (map string_bytes words.now) ≡ None → ((result ≡ Usage) ⊎ (result ≡ NoMemory))
+        × (policy.new ≡ policy.old) × (script.new ≡ script.old) × (out.new ≡ out.old) }
 
     // The policy is refused for the fault that its bytes have, and then nothing is read of the script and nothing
     // written. Where they have one no script is answered. No more is read of them than decides that.
@@ -137,8 +143,15 @@ pub fn run<R: AllocGlobal, S: Source, T: Source, K: Sink, C: Clock>(
     ensures feed_refused { (fault : FeedFault) → result ≡ FeedRefused fault
         → (command_of (map string_bytes words.now) ≡ Some Mirror) × (fault ≢ feed_faults.NoMemory) × (out.new ≡ out.old) }
 
-    // Done comes at the script's end alone.
-    ensures ended { result ≡ Done → T.has_ended script.new }
+    // `load`: what is written is the summary of the load, all of it at once. Nothing is read of the script.
+    ensures loaded { (seed requests : ℕ) → command_of (map string_bytes words.now) ≡ Some (Load seed requests)
+        → ((result ≢ Done) × (out.new ≡ out.old))
+        ⊎ ((p : PlainPolicy) × IsPolicy p × IsSaid (S.left policy.old) (Ok p)
+        × IsLoaded p seed requests (K.written out.old) result (K.written out.new)) }
+    ensures scriptless { (seed requests : ℕ) → command_of (map string_bytes words.now) ≡ Some (Load seed requests) → script.new ≡ script.old }
+
+    // Done comes at the script's end alone, where the command has one.
+    ensures ended { result ≡ Done → reads_script (command_of (map string_bytes words.now)) ≡ true → T.has_ended script.new }
 
     // `batch` tells want of memory before anything is read of the script and anything is written.
     ensures unread { command_of (map string_bytes words.now) ≡ Some Batch → result ≡ NoMemory → (script.new ≡ script.old) × (out.new ≡ out.old) }
@@ -186,6 +199,10 @@ pub fn run<R: AllocGlobal, S: Source, T: Source, K: Sink, C: Clock>(
         → last_serial 0 texts.texts ≡ length (operations_of rooms es)
         → (fed (mirror_of registry) feed).objects ≡ map (mirrored (capitals registry)) (objects_of (register_after rooms es)) }
 
+    // A load's register is that of legal entries too, and loses none of their numbers.
+    ensures load_conserved { (p : PlainPolicy) (who : List ℕ) (seed requests : ℕ) → IsPolicy p
+        → (es : List PlainEntry) × IsConservedBy (loaded rooms p who seed requests).register es }
+
     // A delegation takes the least free block, aligned and all of it available, and an overlap is told by the least
     // number that is taken.
     ensures least { (es : List PlainEntry) (p : PlainPolicy) (day : ℕ) (lines : List (List ℕ)) (space : Space) (size : ℕ)
@@ -204,8 +221,11 @@ pub fn run<R: AllocGlobal, S: Source, T: Source, K: Sink, C: Clock>(
     zones_are_delegated();
     mirrors_follow_registers();
     answers_are_least();
-    let Some(command) = Command::read(words) else {
-        return Exit::Usage;
+    loads_conserve();
+    let command = match Command::read(rt.alloc(), words) {
+        Ok(Some(command)) => command,
+        Ok(None) => return Exit::Usage,
+        Err(_) => return Exit::NoMemory,
     };
     match read_policy(rt.alloc(), policy) {
         Ok(policy) => match command {
@@ -214,6 +234,9 @@ pub fn run<R: AllocGlobal, S: Source, T: Source, K: Sink, C: Clock>(
                 answer_publication(rt.alloc(), policy, what, script, out, clock)
             }
             Command::Mirror => answer_mirror(rt.alloc(), policy.registry(), script, out),
+            Command::Load { seed, requests } => {
+                answer_load(rt.alloc(), &policy, seed, requests, out)
+            }
         },
         Err(NoPolicy::Read) => Exit::ReadFault,
         Err(NoPolicy::Refused(fault)) => Exit::PolicyRefused(fault),
