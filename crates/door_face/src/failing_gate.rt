@@ -67,6 +67,8 @@ impl<'a, L: Link + Drop + Send> Gate for FailingGate<'a, L> {
     ghost use Rattle.std.specs.Prelude.{Some};
     ghost use Rattle.door_face.specs.MemGate.{the_door, links_of, records_of};
 
+    type L = L;
+
     type W = FailingWay<'a, L>;
 
     ghost given = { λ g door. (the_door g.gate door).given };

@@ -4,12 +4,13 @@ ghost use Rattle.link_face.specs.Faults.{HasCause, HasRisen};
 
 use crate::door::Door;
 use crate::way::Way;
-use link_face::Failed;
+use link_face::{Failed, Link};
 
 /// Where ways come from, and where they go back.
 pub trait Gate {
-    // They move to the threads of workers.
-    type W: Way + Send;
+    // Ways, and the links that they give, move to the threads of workers.
+    type L: Link + Drop + Send;
+    type W: Way<L = Self::L> + Send;
 
     ghost use Rattle.door_face.specs.declared.door.Door.{Door};
 

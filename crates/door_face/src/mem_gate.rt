@@ -174,6 +174,8 @@ impl<L: Link + Drop + Send> Gate for MemGate<L> {
     ghost use Rattle.std.specs.Prelude.{Some};
     ghost use Rattle.door_face.specs.MemGate.{the_door, links_of, records_of};
 
+    type L = L;
+
     type W = MemWay<L>;
 
     ghost given = { λ g door. (the_door g door).given };

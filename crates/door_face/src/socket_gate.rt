@@ -9,7 +9,7 @@ ghost use Rattle.link_face.specs.Faults.{HasCause};
 use crate::door::Door;
 use crate::gate::Gate;
 use crate::socket_way::SocketWay;
-use link_face::Failed;
+use link_face::{Failed, SocketLink};
 use std::marker::Model;
 use std::net::{IpAddr, Ipv4Addr, Net, SocketAddr, TcpListener, TcpStream};
 
@@ -157,6 +157,8 @@ fn read_address(address: &str) -> Option<IpAddr>
 impl<R: Net<Listener = TcpListener, Stream = TcpStream> + Drop> Gate for SocketGate<R> {
     ghost use Rattle.std.specs.Prelude.{None};
     ghost use Rattle.door_face.specs.Doors.{at_door};
+
+    type L = SocketLink;
 
     type W = SocketWay;
 

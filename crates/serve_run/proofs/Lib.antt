@@ -1,0 +1,3 @@
+pub mod Giving
+pub mod Taking
+pub mod Serving
