@@ -6,7 +6,8 @@ use link_face::{Failed, Link};
 
 /// The links that one worker serves, one after another.
 pub trait Way: Drop {
-    type L: Link + Drop;
+    // They are served in the threads of workers.
+    type L: Link + Drop + Send;
 
     ghost use Rattle.door_face.specs.declared.door.Door.{Door};
 
