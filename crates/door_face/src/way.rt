@@ -6,8 +6,7 @@ use link_face::{Failed, Link};
 
 /// The links that one worker serves, one after another.
 pub trait Way: Drop {
-    // They are served in the threads of workers.
-    type L: Link + Drop + Send;
+    type L: Link + Drop;
 
     ghost use Rattle.door_face.specs.declared.door.Door.{Door};
 
