@@ -1,9 +1,11 @@
 -- Ways that a gate gives, one after another.
 use Rattle.std.proofs.Common.{◌≡◌, ◌≢◌, ℕ, ◌+◌, List, [], ◌∷◌, ◌++◌, length, map, All, Option, None, Some, IfSome, refl, sym, ap, ◌∙◌, subst, append_assoc, append-nil, length-append, arith}
+use Rattle.std.proofs.lemmas.List.Elements.{All-head, All-nil, All-push, All-tail}
 use Rattle.door_face.specs.declared.door.Door.{Door}
 use Rattle.door_face.specs.Doors.{WayRecord, more_by}
 use Rattle.door_duty.specs.Along.{PlainWay}
 use Rattle.serve_run.specs.Gate.{PlainGate, IsNewWay, IsFrontGiven, HasGiven}
+use Rattle.serve_run.specs.Duties.{AreDuties}
 
 none_ahead : (told : Option (List ℕ)) → IfSome told (IsFrontGiven [] told)
 none_ahead None = tt
@@ -16,7 +18,7 @@ none_lent (Some n) = ap (λ k. Some k) (omega arith)
 -- before the first
 pub none_given : (door : Door) (port : ℕ) (gate : PlainGate) → HasGiven door port gate [] gate
 none_given door port gate = record {
-  fresh = tt;
+  fresh = All-nil (IsNewWay door port);
   given = omega arith;
   to_come = none_ahead (gate.to_come door);
   other = λ other differs. (refl, refl);
@@ -36,10 +38,6 @@ pub record IsNextGiven (way : PlainWay) (after : Option (List ℕ)) (numbers : L
 map_more : {A B : Type 0} (f : A → B) (xs : List A) (x : A) → map f (xs ++ x ∷ []) ≡ map f xs ++ f x ∷ []
 map_more f [] x = refl
 map_more f (y ∷ xs) x = ap (λ zs. f y ∷ zs) (map_more f xs x)
-
-all_more : {A : Type 0} (P : A → Type 0) (xs : List A) (x : A) → All P xs → P x → All P (xs ++ x ∷ [])
-all_more P [] x all one = (one, tt)
-all_more P (y ∷ xs) x all one = (all.0, all_more P xs x all.1 one)
 
 front_more : (ways : List PlainWay) (way : PlainWay) (mid after : Option (List ℕ)) (numbers : List ℕ) → IsFrontGiven ways mid numbers
     → IfSome mid (IsNextGiven way after) → IsFrontGiven (ways ++ way ∷ []) after numbers
@@ -74,7 +72,7 @@ pub one_more_given : (door : Door) (port : ℕ) (old : PlainGate) (ways : List P
 one_more_given door port old ways mid way new so_far fresh next given lent other returned faults =
     let count : length (ways ++ way ∷ []) ≡ length ways + 1 = length-append ways (way ∷ []) in
     record {
-      fresh = all_more (IsNewWay door port) ways way so_far.fresh fresh;
+      fresh = All-push (IsNewWay door port) ways way so_far.fresh fresh;
       given = let before = so_far.given in omega (arith, given, before, count);
       to_come = to_come_more (old.to_come door) ways way (mid.to_come door) (new.to_come door) so_far.to_come next;
       other = λ o differs. (
@@ -85,3 +83,64 @@ one_more_given door port old ways mid way new so_far fresh next given lent other
       returned = returned ∙ so_far.returned;
       faults = faults ∙ so_far.faults;
     }
+
+-- ---- duties
+
+none_left : {X : Type 0} (xs : List X) → length xs ≡ 0 → xs ≡ []
+none_left [] none = refl
+none_left (x ∷ xs) none = grind (arith, none)
+
+pub none_made : {H D P : Type 0} (make : H → D) (way_of : H → PlainWay) (pass_of : H → P) (Good : H → Type 0) (door : Door) (port : ℕ)
+    (gate : PlainGate) (passes left : List P) (duties : List D) → left ≡ passes → duties ≡ []
+    → AreDuties make way_of pass_of Good door port gate passes left duties gate
+none_made make way_of pass_of Good door port gate passes left duties all none =
+    record { parts = []; made = none; given = none_given door port gate; passes_are = all; good = All-nil Good }
+
+-- where no pass is left
+pub all_made : {H D P : Type 0} (make : H → D) (way_of : H → PlainWay) (pass_of : H → P) (Good : H → Type 0) (door : Door) (port : ℕ)
+    (old : PlainGate) (passes left : List P) (duties : List D) (new : PlainGate) → length left ≡ 0
+    → AreDuties make way_of pass_of Good door port old passes left duties new → AreDuties make way_of pass_of Good door port old passes [] duties new
+all_made make way_of pass_of Good door port old passes left duties new none it =
+    subst (λ ps. AreDuties make way_of pass_of Good door port old passes ps duties new) (none_left left none) it
+
+pub one_more_made : {H D P : Type 0} (make : H → D) (way_of : H → PlainWay) (pass_of : H → P) (Good : H → Type 0) (door : Door) (port : ℕ)
+    (old : PlainGate) (passes left next : List P) (duties after : List D) (mid new : PlainGate) (part : H)
+    → AreDuties make way_of pass_of Good door port old passes left duties mid
+    → left ≡ pass_of part ∷ next → after ≡ duties ++ make part ∷ [] → Good part → IsNewWay door port (way_of part)
+    → IfSome (mid.to_come door) (IsNextGiven (way_of part) (new.to_come door))
+    → new.given door ≡ mid.given door + 1
+    → new.lent ≡ more_by 1 mid.lent
+    → ((other : Door) → other ≢ door → (new.to_come other ≡ mid.to_come other) × (new.given other ≡ mid.given other))
+    → new.returned ≡ mid.returned → new.faults ≡ mid.faults
+    → AreDuties make way_of pass_of Good door port old passes next after new
+one_more_made make way_of pass_of Good door port old passes left next duties after mid new part so_far one_less one_more well fresh to_come given lent other
+    returned faults =
+        let more = one_more_given door port old (map way_of so_far.parts) mid (way_of part) new so_far.given fresh to_come given lent other returned faults in
+        record {
+          parts = so_far.parts ++ part ∷ [];
+          made = one_more ∙ ap (λ ds. ds ++ make part ∷ []) so_far.made ∙ sym (map_more make so_far.parts part);
+          given = subst (λ ways. HasGiven door port old ways new) (sym (map_more way_of so_far.parts part)) more;
+          passes_are = ap (λ ps. ps ++ next) (map_more pass_of so_far.parts part) ∙ append_assoc (map pass_of so_far.parts) (pass_of part ∷ []) next
+              ∙ ap (λ ps. map pass_of so_far.parts ++ ps) (sym one_less) ∙ so_far.passes_are;
+          good = All-push Good so_far.parts part so_far.good well;
+        }
+
+-- ---- what a gate says of a way that it gives
+
+-- the first of a list of which all are so
+pub first_is : {X : Type 0} (P : X → Type 0) (xs : List X) (x : X) (rest : List X) → xs ≡ x ∷ rest → All P xs → P x
+first_is P xs x rest same all = All-head P x rest (subst (All P) same all)
+
+pub rest_are : {X : Type 0} (P : X → Type 0) (xs : List X) (x : X) (rest : List X) → xs ≡ x ∷ rest → All P xs → All P rest
+rest_are P xs x rest same all = All-tail P x rest (subst (All P) same all)
+
+pub new_way : (door : Door) (port : ℕ) (way : PlainWay) → (way.door ≡ door) × (way.port ≡ port)
+    → IfSome way.lent (λ n. n ≡ 0) × IfSome way.returned (λ links. links ≡ []) × (way.faults ≡ 0) → IsNewWay door port way
+new_way door port way place fresh =
+    record { door_is = place.0; port_is = place.1; lent = fresh.0; returned = fresh.1; faults = fresh.2 }
+
+pub next_given : (told : Option (List ℕ)) (way : PlainWay) (after : Option (List ℕ))
+    → IfSome told (λ ways. (n : ℕ) × (rest : List ℕ) × (ways ≡ n ∷ rest) × (way.links_left ≡ Some n) × (after ≡ Some rest))
+    → IfSome told (IsNextGiven way after)
+next_given None way after it = tt
+next_given (Some ways) way after it = record { number = it.0; rest = it.1; numbers_are = it.2; left = it.3; rest_is = it.4 }

@@ -1,3 +1,3 @@
 pub mod Giving
 pub mod Taking
-pub mod Serving
+pub mod Both

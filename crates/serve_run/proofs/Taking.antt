@@ -1,7 +1,8 @@
 -- Ways that go back to the gate, one after another.
-use Rattle.std.proofs.Common.{◌≡◌, ℕ, ◌+◌, ◌-◌, ◌^◌, ◌≤◌, ◌<◌, Bool, true, false, List, [], ◌∷◌, ◌++◌, length, map, min, sum, All, Option, None, Some, IfSome, inl, inr, refl, sym, ap, ◌∙◌, subst, append_assoc, append-nil, length-append, absurd, true≢false, arith}
-use Rattle.std.specs.Bool.{◌||◌}
-use Rattle.std.specs.List.{list_any}
+use Rattle.std.proofs.Common.{◌≡◌, ℕ, ◌+◌, ◌-◌, ◌^◌, ◌≤◌, ◌<◌, ◌||◌, Bool, true, false, List, [], ◌∷◌, ◌++◌, length, map, min, All, Option, None, Some, IfSome, inl, inr, refl, sym, ap, ◌∙◌, subst, append_assoc, append-nil, length-append, true≢false, arith}
+use Rattle.std.specs.List.{list_any, sum_by}
+use Rattle.std.proofs.lemmas.List.Sums.{sum_by-append}
+use Rattle.std.proofs.lemmas.List.Elements.{All-head, All-tail}
 use Rattle.door_face.specs.declared.door.Door.{Door}
 use Rattle.door_face.specs.declared.outcome.Outcome.{Outcome}
 use Rattle.door_face.specs.declared.outcome.Outcome.TheVariants.{Ended, Back}
@@ -10,9 +11,10 @@ use Rattle.door_face.specs.Duties.{is_back}
 use Rattle.link_face.specs.Faults.{HasRisen}
 use Rattle.door_duty.specs.Along.{with_more}
 use Rattle.serve_run.specs.Gate.{PlainGate}
-use Rattle.serve_run.specs.Back.{PlainEnd, PlainTally, AreTakenBack, IsAsFull, came_back, end_by, most, record_of, worked_ends}
+use Rattle.serve_run.specs.declared.back.Tally.{Tally}
+use Rattle.serve_run.specs.Back.{PlainEnd, AreTakenBack, IfWorked, IsAsFull, IsTold, came_back, end_by, most, record_of, worked_ends}
 
-abbrev pub nothing_counted : PlainTally
+abbrev pub nothing_counted : Tally
 nothing_counted = record { connections = 0; has_failed = false; any_back = false }
 
 more_none : {X : Type 0} (told : Option (List X)) → told ≡ with_more told []
@@ -49,7 +51,7 @@ any_and_back [] = refl
 any_and_back (None ∷ ends) = refl
 any_and_back (Some end ∷ ends) = any_and_back ends
 
-pub one_came_back : (first : PlainGate) (ends : List (Option PlainEnd)) (gate : PlainGate) (tally : PlainTally)
+pub one_came_back : (first : PlainGate) (ends : List (Option PlainEnd)) (gate : PlainGate) (tally : Tally)
     → AreTakenBack first ends gate tally
     → AreTakenBack first (ends ++ None ∷ []) gate (record { connections = tally.connections; has_failed = tally.has_failed; any_back = true })
 one_came_back first ends gate tally it =
@@ -57,7 +59,7 @@ one_came_back first ends gate tally it =
     record {
       returned = it.returned ∙ ap (λ es. with_more first.returned (map record_of es)) (sym same);
       lent = it.lent ∙ ap (λ es. more_by (length es) gate.lent) (sym same);
-      connections = it.connections ∙ ap (λ (es : List PlainEnd). min (sum (map (λ end. end.connections) es)) most) (sym same);
+      connections = it.connections ∙ ap (λ (es : List PlainEnd). min (sum_by (λ end. end.connections) es) most) (sym same);
       has_failed = it.has_failed ∙ ap (λ (es : List PlainEnd). list_any (λ end. end.has_failed) es) (sym same);
       any_back = any_and_back ends;
       full = it.full;
@@ -91,23 +93,19 @@ lent_and_one : (told : Option ℕ) (n : ℕ) → more_by n (more_by 1 told) ≡ 
 lent_and_one None n = refl
 lent_and_one (Some k) n = ap (λ j. Some j) (omega arith)
 
-sum_and_one : (es : List PlainEnd) (end : PlainEnd)
-    → sum (map (λ (e : PlainEnd). e.connections) (es ++ end ∷ [])) ≡ sum (map (λ (e : PlainEnd). e.connections) es) + end.connections
-sum_and_one [] end = omega arith
-sum_and_one (e ∷ es) end = let rest = sum_and_one es end in omega (arith, rest)
+or_more : (a b c d : Bool) → (a || b) ≡ c → ((d || a) || b) ≡ (d || c)
+or_more a b c true same = refl
+or_more a b c false same = same
+
+or_false : (b : Bool) → (false || b) ≡ (b || false)
+or_false true = refl
+or_false false = refl
 
 failed_and_one : (es : List PlainEnd) (end : PlainEnd)
-    → list_any (λ (e : PlainEnd). e.has_failed) es || end.has_failed ≡ list_any (λ (e : PlainEnd). e.has_failed) (es ++ end ∷ [])
+    → (list_any (λ (e : PlainEnd). e.has_failed) es || end.has_failed) ≡ list_any (λ (e : PlainEnd). e.has_failed) (es ++ end ∷ [])
 failed_and_one [] end = or_false end.has_failed
-  where
-    or_false : (b : Bool) → (false || b) ≡ (b || false)
-    or_false true = refl
-    or_false false = refl
-failed_and_one (e ∷ es) end = step e.has_failed
-  where
-    step : (b : Bool) → (b || list_any (λ (e : PlainEnd). e.has_failed) es) || end.has_failed ≡ b || list_any (λ (e : PlainEnd). e.has_failed) (es ++ end ∷ [])
-    step true = refl
-    step false = failed_and_one es end
+failed_and_one (e ∷ es) end =
+    or_more (list_any (λ (x : PlainEnd). x.has_failed) es) end.has_failed (list_any (λ (x : PlainEnd). x.has_failed) (es ++ end ∷ [])) e.has_failed (failed_and_one es end)
 
 risen_by_first : (a b c : ℕ) → HasRisen a b → b ≤ c → HasRisen a c
 risen_by_first a b c (inl rose) kept = inl (omega (arith, rose, kept))
@@ -134,7 +132,7 @@ has_failed_then true b first mid new step kept failed is = risen_by_first first 
 has_failed_then false true first mid new step kept failed is = risen_by_last first mid new kept (step.risen refl)
 has_failed_then false false first mid new step kept failed is = absurd (true≢false (sym is))
 
-pub one_worked : (first : PlainGate) (ends : List (Option PlainEnd)) (end : PlainEnd) (mid new : PlainGate) (tally : PlainTally) (count : ℕ)
+pub one_worked : (first : PlainGate) (ends : List (Option PlainEnd)) (end : PlainEnd) (mid new : PlainGate) (tally : Tally) (count : ℕ)
     → AreTakenBack first ends mid tally
     → new.returned ≡ with_last mid.returned (record_of end)
     → mid.lent ≡ more_by 1 new.lent
@@ -153,10 +151,10 @@ one_worked first ends end mid new tally count it returned lent given to_come fau
           ∙ ap (λ n. more_by n new.lent) (sym (length-append es (end ∷ [])))
           ∙ ap (λ (xs : List PlainEnd). more_by (length xs) new.lent) (sym same);
       connections =
-          let total = sum_and_one es end in
+          let total = sum_by-append (λ (e : PlainEnd). e.connections) es (end ∷ []) in
           let before = it.connections in
-          let now : count ≡ min (sum (map (λ (e : PlainEnd). e.connections) (es ++ end ∷ []))) most = omega (arith, total, before, counted) in
-          now ∙ ap (λ (xs : List PlainEnd). min (sum (map (λ e. e.connections) xs)) most) (sym same);
+          let now : count ≡ min (sum_by (λ (e : PlainEnd). e.connections) (es ++ end ∷ [])) most = omega (arith, total, before, counted) in
+          now ∙ ap (λ (xs : List PlainEnd). min (sum_by (λ e. e.connections) xs) most) (sym same);
       has_failed = ap (λ b. b || end.has_failed) it.has_failed ∙ failed_and_one es end
           ∙ ap (λ (xs : List PlainEnd). list_any (λ e. e.has_failed) xs) (sym same);
       any_back = it.any_back ∙ any_and_one ends end;
@@ -165,6 +163,12 @@ one_worked first ends end mid new tally count it returned lent given to_come fau
       well = still_well tally.has_failed end.has_failed first.faults mid.faults new.faults fault it.well;
       failed = has_failed_then tally.has_failed end.has_failed first.faults mid.faults new.faults fault it.kept it.failed;
     }
+
+-- one less is lent
+pub fewer_lent : (old new : Option ℕ) (n : ℕ) → old ≡ more_by 1 new → IfSome old (λ k. n + 1 ≤ k) → IfSome new (λ k. n ≤ k)
+fewer_lent old None n same enough = tt
+fewer_lent old (Some k) n same enough =
+    let here : n + 1 ≤ k + 1 = subst (λ told. IfSome told (λ j. n + 1 ≤ j)) same enough in omega (arith, here)
 
 -- ---- all of them
 
@@ -179,3 +183,75 @@ pub all_worked : (ends : List (Option PlainEnd)) → list_any came_back ends ≡
 all_worked [] none = refl
 all_worked (None ∷ ends) none = absurd (true≢false none)
 all_worked (Some end ∷ ends) none = ap (λ es. Some end ∷ es) (all_worked ends none)
+
+-- so many outcomes are left, and those before them are taken back
+pub record AreTakenOf {D : Type 0} (end_of : D → PlainEnd) (all left : List (Outcome D)) (old new : PlainGate) (tally : Tally) : Type 0 where
+  pub ends : List (Option PlainEnd)
+  pub joined : ends ++ map (end_by end_of) left ≡ map (end_by end_of) all
+  pub taken : AreTakenBack old ends new tally
+
+pub none_done : {D : Type 0} (end_of : D → PlainEnd) (all left : List (Outcome D)) (gate : PlainGate) → left ≡ all
+    → AreTakenOf end_of all left gate gate nothing_counted
+none_done end_of all left gate same = record { ends = []; joined = ap (λ outs. map (end_by end_of) outs) same; taken = none_taken gate }
+
+pub one_done : {D : Type 0} (end_of : D → PlainEnd) (all left rest : List (Outcome D)) (out : Outcome D) (old mid new : PlainGate) (before after : Tally)
+    → AreTakenOf end_of all left old mid before → left ≡ out ∷ rest
+    → ((first : PlainGate) (ends : List (Option PlainEnd)) → AreTakenBack first ends mid before
+    → AreTakenBack first (ends ++ end_by end_of out ∷ []) new after)
+    → AreTakenOf end_of all rest old new after
+one_done end_of all left rest out old mid new before after it first step = record {
+  ends = it.ends ++ end_by end_of out ∷ [];
+  joined = append_assoc it.ends (end_by end_of out ∷ []) (map (end_by end_of) rest)
+      ∙ ap (λ outs. it.ends ++ map (end_by end_of) outs) (sym first) ∙ it.joined;
+  taken = step old it.ends it.taken;
+}
+
+none_left : {X : Type 0} (xs : List X) → length xs ≡ 0 → xs ≡ []
+none_left [] none = refl
+none_left (x ∷ xs) none = grind (arith, none)
+
+pub all_done : {D : Type 0} (end_of : D → PlainEnd) (all left : List (Outcome D)) (old new : PlainGate) (tally : Tally)
+    → AreTakenOf end_of all left old new tally → length left ≡ 0 → AreTakenBack old (map (end_by end_of) all) new tally
+all_done end_of all left old new tally it none =
+    let joined = ap (λ outs. it.ends ++ map (end_by end_of) outs) (sym (none_left left none)) ∙ it.joined in
+    subst (λ ends. AreTakenBack old ends new tally) (sym (append-nil it.ends) ∙ joined) it.taken
+
+pub came_back_as : {D : Type 0} (end_of : D → PlainEnd) (all left : List (Outcome D)) (old new : PlainGate) (tally : Tally) (b : Bool)
+    → AreTakenOf end_of all left old new tally → length left ≡ 0 → tally.any_back ≡ b → list_any is_back all ≡ b
+came_back_as end_of all left old new tally b it none is =
+    sym (back_alike end_of all) ∙ sym (all_done end_of all left old new tally it none).any_back ∙ is
+
+-- where no way failed and no duty came back
+pub well_done : {D : Type 0} (end_of : D → PlainEnd) (all left : List (Outcome D)) (old new : PlainGate) (tally : Tally)
+    → AreTakenOf end_of all left old new tally → length left ≡ 0 → tally.has_failed ≡ false → tally.any_back ≡ false
+    → AreTakenBack old (map (end_by end_of) all) new (record { connections = tally.connections; has_failed = false; any_back = false })
+well_done end_of all left old new tally it none well worked =
+    let done = all_done end_of all left old new tally it none in
+    record {
+      returned = done.returned;
+      lent = done.lent;
+      connections = done.connections;
+      has_failed = sym well ∙ done.has_failed;
+      any_back = sym worked ∙ done.any_back;
+      full = done.full;
+      kept = done.kept;
+      well = λ is. done.well well;
+      failed = λ is. absurd (true≢false (sym is));
+    }
+
+-- what the first of them and the others are told by
+pub first_is_told : {D : Type 0} (end_of : D → PlainEnd) (left rest : List (Outcome D)) (out : Outcome D) → left ≡ out ∷ rest
+    → All (IfWorked IsTold) (map (end_by end_of) left) → IfWorked IsTold (end_by end_of out)
+first_is_told end_of left rest out same all =
+    All-head (IfWorked IsTold) (end_by end_of out) (map (end_by end_of) rest) (subst (λ outs. All (IfWorked IsTold) (map (end_by end_of) outs)) same all)
+
+pub rest_are_told : {D : Type 0} (end_of : D → PlainEnd) (left rest : List (Outcome D)) (out : Outcome D) → left ≡ out ∷ rest
+    → All (IfWorked IsTold) (map (end_by end_of) left) → All (IfWorked IsTold) (map (end_by end_of) rest)
+rest_are_told end_of left rest out same all =
+    All-tail (IfWorked IsTold) (end_by end_of out) (map (end_by end_of) rest) (subst (λ outs. All (IfWorked IsTold) (map (end_by end_of) outs)) same all)
+
+-- one more is lent than are left behind the first
+pub enough_lent : {D : Type 0} (left rest : List (Outcome D)) (out : Outcome D) (lent : Option ℕ) → left ≡ out ∷ rest
+    → IfSome lent (λ n. length left ≤ n) → IfSome lent (λ n. length rest + 1 ≤ n)
+enough_lent left rest out None same enough = tt
+enough_lent left rest out (Some n) same enough = let long = ap (λ outs. length outs) same in omega (arith, long, enough)

@@ -1,6 +1,6 @@
 -- What becomes of the ways of the workers, and how their connections are counted.
-use Rattle.std.specs.Prelude.{◌≡◌, ◌+◌, ◌-◌, ◌^◌, ◌<◌, ◌≤◌, ℕ, Bool, true, false, List, [], ◌∷◌, Option, None, Some, min, sum, map, length, ⊤}
-use Rattle.std.specs.List.{list_any}
+use Rattle.std.specs.Prelude.{◌≡◌, ◌+◌, ◌-◌, ◌^◌, ◌<◌, ◌≤◌, ℕ, Bool, true, false, List, [], ◌∷◌, Option, None, Some, min, map, length, ⊤}
+use Rattle.std.specs.List.{list_any, sum_by}
 use Rattle.door_face.specs.declared.door.Door.{Door}
 use Rattle.door_face.specs.declared.outcome.Outcome.{Outcome}
 use Rattle.door_face.specs.declared.outcome.Outcome.TheVariants.{Ended, Back}
@@ -8,6 +8,7 @@ use Rattle.door_face.specs.Doors.{WayRecord, way_record, more_by}
 use Rattle.link_face.specs.Faults.{HasRisen}
 use Rattle.door_duty.specs.Along.{PlainWay, with_more}
 use Rattle.serve_run.specs.Gate.{PlainGate}
+use Rattle.serve_run.specs.declared.back.Tally.{Tally}
 
 -- what a worker leaves: how many connections were counted, whether the way failed, and the way
 pub record PlainEnd : Type 0 where
@@ -50,21 +51,15 @@ record_of end = way_record end.way.door end.way.port end.way.returned
 abbrev pub most : ℕ
 most = 2 ^ 64 - 1
 
--- how many connections were counted, whether a way failed, and whether a duty came back
-pub record PlainTally : Type 0 where
-  pub connections : ℕ
-  pub has_failed : Bool
-  pub any_back : Bool
-
 -- no door has another number of ways given or to come
 abbrev pub IsAsFull : PlainGate → PlainGate → Type 0
 IsAsFull old new = (door : Door) → (new.given door ≡ old.given door) × (new.to_come door ≡ old.to_come door)
 
 -- The ways of the duties that were worked went back to the gate, in order, and were counted.
-pub record AreTakenBack (old : PlainGate) (ends : List (Option PlainEnd)) (new : PlainGate) (tally : PlainTally) : Type 0 where
+pub record AreTakenBack (old : PlainGate) (ends : List (Option PlainEnd)) (new : PlainGate) (tally : Tally) : Type 0 where
   pub returned : new.returned ≡ with_more old.returned (map record_of (worked_ends ends))
   pub lent : old.lent ≡ more_by (length (worked_ends ends)) new.lent
-  pub connections : tally.connections ≡ min (sum (map (λ end. end.connections) (worked_ends ends))) most
+  pub connections : tally.connections ≡ min (sum_by (λ end. end.connections) (worked_ends ends)) most
   pub has_failed : tally.has_failed ≡ list_any (λ end. end.has_failed) (worked_ends ends)
   pub any_back : tally.any_back ≡ list_any came_back ends
   pub full : IsAsFull old new

@@ -1,3 +1,4 @@
 pub mod Gate
+pub mod Duties
 pub mod Back
 pub mod Service

@@ -1,5 +1,6 @@
 -- What serving both doors leaves: of each way its links, served one after another from an empty register on.
-use Rattle.std.specs.Prelude.{◌≡◌, ◌+◌, ◌++◌, ℕ, List, [], ◌∷◌, Option, Some, IfSome, min, sum, map, length, ⊤, ⊥}
+use Rattle.std.specs.Prelude.{◌≡◌, ◌+◌, ◌++◌, ℕ, List, [], ◌∷◌, Option, Some, IfSome, min, map, length, ⊤}
+use Rattle.std.specs.List.{sum_by}
 use Rattle.logbook.specs.Pages.{Book}
 use Rattle.reg_entry.specs.Next.{IsLegal}
 use Rattle.reg_entry.specs.Policy.{PlainPolicy}
@@ -65,4 +66,4 @@ pub record IsServed (rooms : Rooms) (policy : PlainPolicy) (is_day : ℕ → Typ
   pub returned : new.returned ≡ with_more old.returned (http_ways ++ line_ways)
   pub lent : new.lent ≡ old.lent
   pub faults : new.faults ≡ old.faults
-  pub number : count ≡ min (sum (map length (http_links ++ line_links))) most
+  pub number : count ≡ min (sum_by (λ links. length links) (http_links ++ line_links)) most

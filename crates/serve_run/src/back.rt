@@ -1,6 +1,7 @@
 //! Taking back what the workers leave.
-ghost use Rattle.std.specs.Prelude.{◌≡◌, ◌≢◌, ◌≤◌, ◌<◌, ◌+◌, ◌++◌, ◌∷◌, [], ℕ, All, List, Option, IfOk, IfSome, IsOk, Err, true, false, length, map};
+ghost use Rattle.std.specs.Prelude.{◌≡◌, ◌≢◌, Some, ◌≤◌, ◌<◌, ◌+◌, ◌++◌, ◌∷◌, [], ℕ, All, List, Option, IfOk, IfSome, IsOk, Err, true, false, length, map};
 ghost use Rattle.std.specs.List.{list_any};
+ghost use Rattle.door_face.specs.Doors.{more_by};
 ghost use Rattle.door_face.specs.Duties.{is_back};
 ghost use Rattle.door_duty.specs.Along.{plain_way};
 ghost use Rattle.link_face.specs.Faults.{HasRisen};
@@ -11,7 +12,6 @@ ghost use Rattle.serve_run.specs.declared.fault.ServeFault.TheVariants.{NoMemory
 use crate::ServeFault;
 use door_duty::Served;
 use door_face::{Gate, Outcome};
-use std::marker::Model;
 
 /// What was taken back so far.
 #[derive(Clone, Copy, Debug, PartialEq, Eq)]
@@ -21,17 +21,32 @@ struct Tally {
     any_back: bool,
 }
 
-impl Model for Tally {
-    ghost use Rattle.serve_run.specs.Back.{PlainTally};
-
-    ghost Value = { PlainTally };
-
-    ghost view = { λ t. record { connections = t.connections; has_failed = t.has_failed; any_back = t.any_back } };
-
-    ghost inverse = { λ t. record { connections = t.connections; has_failed = t.has_failed; any_back = t.any_back } };
+/// Hands the way of a worker back, and counts what was served on it.
+fn take_served<G: Gate>(gate: &mut G, served: Served<G::W>, so_far: Tally) -> Tally
+    requires lent { IfSome (G.lent gate.old) (λ n. 0 < n) }
+    requires told { IsTold (plain_end served.connections served.has_failed
+        (plain_way (G.W.door served.way) (G.W.port served.way) (G.W.links_left served.way) (G.W.lent served.way) (G.W.returned served.way) (G.W.faults served.way))) }
+    ensures taken { (first : PlainGate) (ends : List (Option PlainEnd))
+        → AreTakenBack first ends (plain_gate (G.given gate.old) (G.to_come gate.old) (G.lent gate.old) (G.returned gate.old) (G.faults gate.old)) so_far
+        → AreTakenBack first (ends ++ Some (plain_end served.connections served.has_failed
+        (plain_way (G.W.door served.way) (G.W.port served.way) (G.W.links_left served.way) (G.W.lent served.way) (G.W.returned served.way) (G.W.faults served.way))) ∷ []) (plain_gate (G.given gate.new) (G.to_come gate.new) (G.lent gate.new) (G.returned gate.new) (G.faults gate.new)) result }
+    ensures lent_less { G.lent gate.old ≡ more_by 1 (G.lent gate.new) }
+{
+    let Served {
+        pass: _,
+        way,
+        connections,
+        has_failed,
+    } = served;
+    gate.done(way);
+    Tally {
+        connections: so_far.connections.saturating_add(connections),
+        has_failed: so_far.has_failed | has_failed,
+        any_back: so_far.any_back,
+    }
 }
 
-/// Hands the way of a worker back, and counts what was served on it.
+/// The same of a worker whose duty came back or was worked.
 fn take<G: Gate>(gate: &mut G, outcome: Outcome<Served<G::W>>, so_far: Tally) -> Tally
     requires lent { IfSome (G.lent gate.old) (λ n. 0 < n) }
     requires told { IfWorked IsTold (end_by (λ s. plain_end s.connections s.has_failed
@@ -39,24 +54,11 @@ fn take<G: Gate>(gate: &mut G, outcome: Outcome<Served<G::W>>, so_far: Tally) ->
     ensures taken { (first : PlainGate) (ends : List (Option PlainEnd))
         → AreTakenBack first ends (plain_gate (G.given gate.old) (G.to_come gate.old) (G.lent gate.old) (G.returned gate.old) (G.faults gate.old)) so_far
         → AreTakenBack first (ends ++ end_by (λ s. plain_end s.connections s.has_failed
-        (plain_way (G.W.door s.way) (G.W.port s.way) (G.W.links_left s.way) (G.W.lent s.way) (G.W.returned s.way) (G.W.faults s.way))) outcome ∷ [])
-        (plain_gate (G.given gate.new) (G.to_come gate.new) (G.lent gate.new) (G.returned gate.new) (G.faults gate.new)) result }
+        (plain_way (G.W.door s.way) (G.W.port s.way) (G.W.links_left s.way) (G.W.lent s.way) (G.W.returned s.way) (G.W.faults s.way))) outcome ∷ []) (plain_gate (G.given gate.new) (G.to_come gate.new) (G.lent gate.new) (G.returned gate.new) (G.faults gate.new)) result }
     ensures few { (n : ℕ) → IfSome (G.lent gate.old) (λ k. n + 1 ≤ k) → IfSome (G.lent gate.new) (λ k. n ≤ k) }
 {
     match outcome {
-        Outcome::Ended(Served {
-            pass: _,
-            way,
-            connections,
-            has_failed,
-        }) => {
-            gate.done(way);
-            Tally {
-                connections: so_far.connections.saturating_add(connections),
-                has_failed: so_far.has_failed || has_failed,
-                any_back: so_far.any_back,
-            }
-        }
+        Outcome::Ended(served) => take_served(gate, served, so_far),
         Outcome::Back => Tally {
             connections: so_far.connections,
             has_failed: so_far.has_failed,

@@ -1,10 +1,11 @@
 //! The duties of the workers, each with a way of its own.
-ghost use Rattle.std.specs.Prelude.{◌≡◌, ◌≢◌, All, List, IfOk, Err, map};
+ghost use Rattle.std.specs.Prelude.{◌≡◌, ◌≢◌, [], All, IfOk, Err};
 ghost use Rattle.door_face.specs.declared.door.Door.TheVariants.{Http as AtHttp, Line as AtLine};
 ghost use Rattle.link_face.specs.Faults.{HasRisen};
 ghost use Rattle.door_duty.specs.Along.{plain_way};
 ghost use Rattle.door_duty.specs.declared.door_duty.DoorDuty.TheVariants.{Http, Line};
-ghost use Rattle.serve_run.specs.Gate.{plain_gate, HasGiven};
+ghost use Rattle.serve_run.specs.Gate.{plain_gate};
+ghost use Rattle.serve_run.specs.Duties.{AreDuties};
 ghost use Rattle.serve_run.specs.declared.fault.ServeFault.TheVariants.{Gate as GateFault, Spawn};
 
 use crate::ServeFault;
@@ -30,10 +31,12 @@ pub(crate) fn http_duties<'a, N: Naming, R: Wait + Drop, G: Gate, C: Clock>(
     clock: &'a C,
 ) -> Result<Vec<DoorDuty<'a, G::W, N, R, C>>, ServeFault>
     requires named { All (λ pass. (pass.book ≡ N.book) × (pass.rooms ≡ N.rooms)) passes.items }
-    ensures duties { IfOk result (λ duties. (ds : List _) × (duties.items ≡ map (λ d. Http d) ds)
-        × HasGiven AtHttp port (plain_gate (G.given gate.old) (G.to_come gate.old) (G.lent gate.old) (G.returned gate.old) (G.faults gate.old)) (map (λ d. (plain_way (G.W.door d.way) (G.W.port d.way) (G.W.links_left d.way) (G.W.lent d.way) (G.W.returned d.way) (G.W.faults d.way))) ds) (plain_gate (G.given gate.new) (G.to_come gate.new) (G.lent gate.new) (G.returned gate.new) (G.faults gate.new))
-        × (map (λ d. d.pass) ds ≡ passes.items)
-        × All (λ d. (d.policy.now ≡ policy.now) × (d.clock.now ≡ clock.now)) ds) }
+    ensures duties { IfOk result (λ duties. AreDuties (λ d. Http d)
+        (λ d. plain_way (G.W.door d.way) (G.W.port d.way) (G.W.links_left d.way) (G.W.lent d.way) (G.W.returned d.way) (G.W.faults d.way))
+        (λ d. d.pass) (λ d. (d.policy.now ≡ policy.now) × (d.clock.now ≡ clock.now)) AtHttp port
+        (plain_gate (G.given gate.old) (G.to_come gate.old) (G.lent gate.old) (G.returned gate.old) (G.faults gate.old))
+        passes.items [] duties.items
+        (plain_gate (G.given gate.new) (G.to_come gate.new) (G.lent gate.new) (G.returned gate.new) (G.faults gate.new))) }
     ensures fault { result ≡ Err GateFault → HasRisen (G.faults gate.old) (G.faults gate.new) }
     ensures told { result ≢ Err GateFault → G.faults gate.new ≡ G.faults gate.old }
     ensures never { result ≢ Err Spawn }
@@ -66,10 +69,12 @@ pub(crate) fn line_duties<'a, N: Naming, R: Wait + Drop, G: Gate, C: Clock>(
     passes: Vec<Pass>,
     registry: &'a Name,
 ) -> Result<Vec<DoorDuty<'a, G::W, N, R, C>>, ServeFault>
-    ensures duties { IfOk result (λ duties. (ds : List _) × (duties.items ≡ map (λ d. Line d) ds)
-        × HasGiven AtLine port (plain_gate (G.given gate.old) (G.to_come gate.old) (G.lent gate.old) (G.returned gate.old) (G.faults gate.old)) (map (λ d. (plain_way (G.W.door d.way) (G.W.port d.way) (G.W.links_left d.way) (G.W.lent d.way) (G.W.returned d.way) (G.W.faults d.way))) ds) (plain_gate (G.given gate.new) (G.to_come gate.new) (G.lent gate.new) (G.returned gate.new) (G.faults gate.new))
-        × (map (λ d. d.pass) ds ≡ passes.items)
-        × All (λ d. d.registry.now ≡ registry.now) ds) }
+    ensures duties { IfOk result (λ duties. AreDuties (λ d. Line d)
+        (λ d. plain_way (G.W.door d.way) (G.W.port d.way) (G.W.links_left d.way) (G.W.lent d.way) (G.W.returned d.way) (G.W.faults d.way))
+        (λ d. d.pass) (λ d. d.registry.now ≡ registry.now) AtLine port
+        (plain_gate (G.given gate.old) (G.to_come gate.old) (G.lent gate.old) (G.returned gate.old) (G.faults gate.old))
+        passes.items [] duties.items
+        (plain_gate (G.given gate.new) (G.to_come gate.new) (G.lent gate.new) (G.returned gate.new) (G.faults gate.new))) }
     ensures fault { result ≡ Err GateFault → HasRisen (G.faults gate.old) (G.faults gate.new) }
     ensures told { result ≢ Err GateFault → G.faults gate.new ≡ G.faults gate.old }
     ensures never { result ≢ Err Spawn }

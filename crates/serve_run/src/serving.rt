@@ -53,8 +53,14 @@ fn serve_desk<N: Naming + Send, R: Threads + Wait + Sync, G: Gate, P: Spawner, C
     ensures spawn_fault { result ≡ Err Spawn → HasRisen (P.faults spawner.old) (P.faults spawner.new) }
     ensures spawn_told { result ≢ Err Spawn → P.faults spawner.new ≡ P.faults spawner.old }
 {
-    let mut duties = http_duties(alloc, gate, doors.http, http_passes, desk, policy, clock)?;
-    let mut at_line = line_duties(alloc, gate, doors.line, line_passes, policy.registry())?;
+    let mut duties = match http_duties(alloc, gate, doors.http, http_passes, desk, policy, clock) {
+        Ok(duties) => duties,
+        Err(fault) => return Err(fault),
+    };
+    let mut at_line = match line_duties(alloc, gate, doors.line, line_passes, policy.registry()) {
+        Ok(duties) => duties,
+        Err(fault) => return Err(fault),
+    };
     duties.append(&mut at_line)?;
     let outcomes = spawner.side_by_side(rt, alloc, duties)?;
     take_back(gate, outcomes)
