@@ -1,5 +1,5 @@
 -- Loops over duties.
-use Rattle.std.proofs.Common.{◌≡◌, ℕ, true, List, [], ◌∷◌, ◌++◌, length, subst, sym, append-nil, refl}
+use Rattle.std.proofs.Common.{◌≡◌, true, List, [], ◌∷◌, ◌++◌, length, subst, sym, append-nil, refl}
 use Rattle.std.proofs.lemmas.List.{nil_from_length}
 use Rattle.std.specs.List.{AllZip, list_any}
 use Rattle.door_face.specs.declared.outcome.Outcome.{Outcome}
