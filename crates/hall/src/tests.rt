@@ -2,6 +2,7 @@
 ghost use Rattle.std.specs.Prelude.{◌≡◌};
 
 mod connections;
+mod desks;
 
 use crate::{Backend, Fault, serve};
 use board::{Answer, Board, Lens};
