@@ -1,6 +1,7 @@
 -- A line that begins an attribute.
-use Rattle.std.proofs.Common.{◌≡◌, ℕ, ◌+◌, Bool, true, false, not, ◌&&◌, ◌==◌, nat_le, List, [], ◌∷◌, ◌++◌, Option, None, Some, Result, Ok, Err, refl, sym, ap, ◌∙◌}
+use Rattle.std.proofs.Common.{◌≡◌, ℕ, ◌+◌, Bool, true, false, not, ◌&&◌, ◌==◌, nat_le, List, [], ◌∷◌, ◌++◌, Option, None, Some, IfSome, Result, Ok, Err, refl, sym, ap, ◌∙◌, subst}
 use Rattle.std.proofs.lemmas.Bool.{cond-true, cond-false}
+use Rattle.reg_entry.specs.declared.object.Key.{Key}
 use Rattle.rpsl_text.specs.Attributes.{last_of}
 use Rattle.rpsl_text.specs.Lines.{continuation_of, name_and_rest, attribute_of}
 use Rattle.rpsl_text.specs.Reading.{begun, after_text, after_line}
@@ -8,7 +9,7 @@ use Rattle.mirror_core.specs.declared.fault.FeedFault.{FeedFault}
 use Rattle.mirror_core.specs.declared.fault.FeedFault.TheVariants.{Spelling, ClassOut}
 use Rattle.mirror_core.specs.Keys.{is_class}
 use Rattle.mirror_core.specs.Mirror.{PlainMirror, PlainStream, PlainDraft}
-use Rattle.mirror_core.specs.Draft.{most_lines, drafted, is_out, first_place, begins_attribute, attribute_line}
+use Rattle.mirror_core.specs.Draft.{most_lines, drafted, is_out, first_place, begins_attribute, attribute_line, object_key}
 use Rattle.mirror_core.specs.Replica.{is_last_out}
 
 last_of_more : (attributes : List (List ℕ × List ℕ)) (a : List ℕ × List ℕ) → last_of (attributes ++ a ∷ []) ≡ Some a
@@ -31,6 +32,23 @@ begins : (attributes : List (List ℕ × List ℕ)) (line : List ℕ) (longer : 
     → after_line attributes line ≡ Some longer → Begun attributes line longer
 begins attributes line longer anew h =
     begun_with attributes line longer (name_and_rest line) refl (sym (ap (after_text attributes line) anew) ∙ h)
+
+-- ---- the key stays the first attribute's
+
+key_of_more : (attributes : List (List ℕ × List ℕ)) (a : List ℕ × List ℕ) (k : Key) → object_key attributes ≡ Some k
+    → object_key (attributes ++ a ∷ []) ≡ Some k
+key_of_more [] a k h = absurd (cc)
+key_of_more (b ∷ more) a k h = h
+
+pub key_stays : {B : Type 0} (kept : Option B) (value : B → Key) (attributes : List (List ℕ × List ℕ)) (line : List ℕ) (longer : List (List ℕ × List ℕ))
+    → continuation_of line ≡ None → after_line attributes line ≡ Some longer → IfSome kept (λ b. object_key attributes ≡ Some (value b))
+    → IfSome kept (λ b. object_key longer ≡ Some (value b))
+key_stays None value attributes line longer anew h is = tt
+key_stays (Some b) value attributes line longer anew h is =
+    let more = begins attributes line longer anew h in
+    subst (λ (all : List (List ℕ × List ℕ)). object_key all ≡ Some (value b)) (sym more.made) (key_of_more attributes (attribute_of more.parts) (value b) is)
+
+-- ---- the line
 
 -- what is said of the parts of a line
 abbrev by_parts : PlainMirror → PlainStream → PlainDraft → Option (List ℕ × List ℕ) → Result PlainMirror FeedFault

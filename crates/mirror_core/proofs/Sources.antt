@@ -1,5 +1,5 @@
 -- The attributes that name a source.
-use Rattle.std.proofs.Common.{◌≡◌, ℕ, Bool, false, List, [], ◌∷◌, Option, None, Some, refl, sym, ap, ◌∙◌}
+use Rattle.std.proofs.Common.{◌≡◌, ℕ, ◌≤◌, ◌<◌, Bool, true, false, List, [], ◌∷◌, length, get_or, codes, bytes_eq, Option, None, Some, refl, sym, ap, ◌∙◌, arith}
 use Rattle.std.specs.Borrow.{Bor}
 use Rattle.std.specs.Option.{option_map}
 use Rattle.rpsl_text.specs.Pairs.{pair_of}
@@ -24,3 +24,15 @@ foreign source attributes lent name value is lends =
 pub none_foreign : (source : List ℕ) (attributes : List (List ℕ × List ℕ)) (lent : Option (Bor (List ℕ) × Bor (List ℕ)))
     → option_map pair_of lent ≡ last_of attributes → lent ≡ None → ends_foreign source attributes ≡ false
 none_foreign source attributes lent is lends = ends_with source attributes ∙ ap (last_foreign source) (sym is ∙ ap (option_map pair_of) lends)
+
+-- the name whose bytes are these
+pub spells_source : (name : List ℕ) → 6 ≤ length name → length name < 7 → get_or name 0 0 ≡ 115 → get_or name 1 0 ≡ 111 → get_or name 2 0 ≡ 117
+    → get_or name 3 0 ≡ 114 → get_or name 4 0 ≡ 99 → get_or name 5 0 ≡ 101 → true ≡ bytes_eq name (codes "source")
+spells_source [] low high a b c d e f = absurd (omega (arith, low))
+spells_source (s ∷ []) low high a b c d e f = absurd (omega (arith, low))
+spells_source (s ∷ o ∷ []) low high a b c d e f = absurd (omega (arith, low))
+spells_source (s ∷ o ∷ u ∷ []) low high a b c d e f = absurd (omega (arith, low))
+spells_source (s ∷ o ∷ u ∷ r ∷ []) low high a b c d e f = absurd (omega (arith, low))
+spells_source (s ∷ o ∷ u ∷ r ∷ x ∷ []) low high a b c d e f = absurd (omega (arith, low))
+spells_source (s ∷ o ∷ u ∷ r ∷ x ∷ y ∷ []) low high a b c d e f = rw (a, b, c, d, e, f) refl
+spells_source (s ∷ o ∷ u ∷ r ∷ x ∷ y ∷ z ∷ more) low high a b c d e f = absurd (omega (arith, high))

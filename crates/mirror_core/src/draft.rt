@@ -27,14 +27,21 @@ pub(crate) struct Draft {
     // The places of its first line, and of the line on which its last attribute begins.
     pub(crate) first: u64,
     pub(crate) last: u64,
+    // The key that the first attribute spells, once it has been read. It has a place of its own, since it is large, and a draft
+    // is moved with each line.
+    pub(crate) key: Option<Box<Key>>,
 }
 
 impl Model for Draft {
+    ghost use Rattle.std.specs.Prelude.{◌≡◌, Some, IfSome};
+    ghost use Rattle.mirror_core.specs.Draft.{object_key};
     ghost use Rattle.mirror_core.specs.Mirror.{PlainDraft};
 
     ghost Value = { PlainDraft };
 
     ghost view = { λ d. record { act = d.act; attributes = d.attributes; lines = d.lines; first = d.first; last = d.last } };
+
+    ghost invariant = { λ d. IfSome d.key (λ k. object_key d.attributes ≡ Some k.value) };
 }
 
 #[derive(Debug, Drop)]
@@ -54,10 +61,12 @@ impl Model for Stream {
     ghost invariant = { λ s. IfSome s.draft (λ _. s.serials.next ≤ s.serials.last) };
 }
 
+// Byte by byte, since a call of a comparison costs more than these six.
+#[tactic(auto, using(crate::proofs::Sources::spells_source))]
 fn is_source(name: &[u8]) -> bool
     ensures { result ≡ bytes_eq name.now (codes "source") }
 {
-    name == b"source".as_slice()
+    matches!(name, [b's', b'o', b'u', b'r', b'c', b'e'])
 }
 
 /// Whether the last attribute names another source.
@@ -81,6 +90,26 @@ impl Draft {
             lines: 0,
             first: 0,
             last: 0,
+            key: None,
+        }
+    }
+
+    /// The object's key, by its first attribute.
+    pub(crate) fn key(&self) -> Option<Key>
+        ensures { result ≡ object_key self.now.attributes }
+    {
+        match &self.key {
+            Some(key) => Some(**key),
+            None => object_key(&self.attributes),
+        }
+    }
+
+    /// Keeps the key, so that it is read once. Where there is no memory for it, it is read again.
+    fn keep_key(&mut self, alloc: Global)
+        ensures { self.new ≡ self.old }
+    {
+        if let Some(key) = object_key(&self.attributes) {
+            self.key = Box::new(alloc, key).ok();
         }
     }
 
@@ -88,6 +117,9 @@ impl Draft {
     fn class_fault(&self) -> Option<FeedFault>
         ensures { result ≡ class_fault self.now self.now.attributes }
     {
+        if self.key.is_some() {
+            return None;
+        }
         let mut attributes = self.attributes.walk();
         let (name, value) = attributes.next()?;
         if attributes.next().is_some() || key_of_attribute(name, value).is_some() {
@@ -105,10 +137,21 @@ impl Draft {
         }
         self.class_fault()
     }
+
+    /// The same, where the key is kept on the way.
+    pub(crate) fn settle(&mut self, alloc: Global, source: &[u8]) -> Option<FeedFault>
+        ensures fault { result ≡ attribute_fault source.now self.old }
+        ensures kept { self.new ≡ self.old }
+    {
+        if self.key.is_none() {
+            self.keep_key(alloc);
+        }
+        self.attribute_fault(source)
+    }
 }
 
 /// The object's key, by its first attribute.
-pub(crate) fn object_key(attributes: &Attrs) -> Option<Key>
+fn object_key(attributes: &Attrs) -> Option<Key>
     ensures { result ≡ object_key attributes.now }
 {
     let (name, value) = attributes.walk().next()?;

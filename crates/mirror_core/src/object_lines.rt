@@ -6,7 +6,7 @@ ghost use Rattle.mirror_core.specs.Draft.{goes_on, attribute_line, percent_insid
 ghost use Rattle.mirror_core.specs.Replica.{standing, standing_in, stream_with, IsAfter, IsLonger, is_last_out};
 
 use crate::FeedFault;
-use crate::draft::{Draft, Serials, Stream, has_source, object_key};
+use crate::draft::{Draft, Serials, Stream, has_source};
 use crate::keys::is_class;
 use crate::replica::Replica;
 use reg_entry::Key;
@@ -63,6 +63,7 @@ impl Replica {
             lines,
             first,
             last,
+            ..
         } = draft;
         if lines >= MOST_LINES {
             return Err(self.spelling());
@@ -74,6 +75,7 @@ impl Replica {
             lines: lines + 1,
             first,
             last,
+            key: None,
         };
         self.stream = Some(Stream {
             serials,
@@ -99,6 +101,7 @@ impl Replica {
             attributes,
             lines,
             first,
+            key,
             ..
         } = draft;
         if lines >= MOST_LINES {
@@ -114,6 +117,7 @@ impl Replica {
             lines: lines + 1,
             first: first_place(lines, first, self.place),
             last: self.place,
+            key,
         };
         self.stream = Some(Stream {
             serials,
@@ -135,7 +139,7 @@ impl Replica {
     fn new_line(
         &mut self,
         serials: Serials,
-        draft: Draft,
+        mut draft: Draft,
         first: u8,
         line: &[u8],
     ) -> Result<(), FeedFault>
@@ -144,7 +148,7 @@ impl Replica {
         ensures said { let s = stream_with serials draft in IsAfter (new_line (standing_in self.old s) s draft first line.now) self.old self.new result }
         ensures place { self.new.place ≡ self.old.place }
     {
-        if let Some(fault) = draft.attribute_fault(self.source.as_slice()) {
+        if let Some(fault) = draft.settle(self.alloc, self.source.as_slice()) {
             return Err(fault);
         }
         if first != b'%' {
@@ -188,13 +192,13 @@ impl Replica {
         ensures said { let s = stream_with serials draft in IsAfter (whole_object (standing_in self.old s) s draft (object_key draft.attributes)) self.old self.new result }
         ensures place { self.new.place ≡ self.old.place }
     {
-        match object_key(&draft.attributes) {
+        match draft.key() {
             Some(key) if has_source(&draft.attributes) => self.apply(serials, draft, key),
             _ => Err(self.spelling()),
         }
     }
 
-    fn empty_line(&mut self, serials: Serials, draft: Draft) -> Result<(), FeedFault>
+    fn empty_line(&mut self, serials: Serials, mut draft: Draft) -> Result<(), FeedFault>
         requires { serials.next ≤ serials.last }
         ensures said { let s = stream_with serials draft in IsAfter (empty_line (standing_in self.old s) s draft) self.old self.new result }
         ensures place { self.new.place ≡ self.old.place }
@@ -206,7 +210,7 @@ impl Replica {
             });
             return Ok(());
         }
-        if let Some(fault) = draft.attribute_fault(self.source.as_slice()) {
+        if let Some(fault) = draft.settle(self.alloc, self.source.as_slice()) {
             return Err(fault);
         }
         self.whole_object(serials, draft)

@@ -4,11 +4,16 @@ use Rattle.mirror_core.specs.declared.fault.FeedFault.TheVariants.{ClassOut}
 use Rattle.mirror_core.specs.Mirror.{PlainDraft}
 use Rattle.mirror_core.specs.Draft.{most_lines, drafted, attribute_line}
 use Rattle.mirror_core.specs.Replica.{PlainReplica, standing_in, stream_with}
-use Rattle.mirror_core.proofs.Attributes.{class_out, class_in}
+use Rattle.mirror_core.proofs.Attributes.{class_out, class_in, key_stays}
 use Rattle.mirror_core.proofs.replica.Replica.attribute_line.Goals as goal
 
 room : (lines : ℕ) → lines < 64 → nat_le most_lines lines ≡ false
 room lines h = grind (arith, nat_tests)
+
+pub invariant_of-draft : goal.invariant_of-draft
+invariant_of-draft c =
+    key_stays c.draft.inside.key (λ b. b.value) c.draft.inside.attributes c.args.line.now c.in_ok-attributes.attributes c.requires.anew
+    c.in_ok-attributes.ensures c.draft.invariant
 
 pub returns-then-is_out-clause-said : goal.returns-then-is_out-clause-said
 returns-then-is_out-clause-said c =
