@@ -33,7 +33,7 @@ after_more : (begun old new : PlainLoad) (seed k : ℕ) (d : PlainDraw) → old 
     → new ≡ after_draw old d → new ≡ after_draws begun seed (k + 1)
 after_more begun old new seed k d so_far is drawn =
     let more : after_draw (after_draws begun seed k) (draw_at seed (k + 1)) ≡ after_draws begun seed (k + 1) =
-      subst (λ n. after_draw (after_draws begun seed k) (draw_at seed n) ≡ after_draws begun seed n) (sym (add-one k)) refl in
+    subst (λ n. after_draw (after_draws begun seed k) (draw_at seed n) ≡ after_draws begun seed n) (sym (add-one k)) refl in
     drawn ∙ (ap (λ l. after_draw l d) so_far ∙ (ap (after_draw (after_draws begun seed k)) is ∙ more))
 
 -- and it is the next that the seed gives
