@@ -10,6 +10,7 @@ use link_face::{Failed, Link};
 pub trait Gate {
     // Ways, and the links that they give, move to the threads of workers.
     type L: Link + Drop + Send;
+
     type W: Way<L = Self::L> + Send;
 
     ghost use Rattle.door_face.specs.declared.door.Door.{Door};

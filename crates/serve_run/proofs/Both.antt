@@ -106,18 +106,18 @@ pub all_leave : {H L W D : Type 0} (make_http : H → W) (make_line : L → W) (
     → AreLeft end_of http_serves line_serves first (map http_way hs.parts) (map line_way ls.parts) outs
 all_leave make_http make_line done http_way line_way http_pass line_pass HttpGood LineGood end_of http_serves line_serves first http line old mid late
     http_passes line_passes http_duties line_duties duties outs hs ls http_first line_first http_leave line_leave joined zip =
-        let whole : AllZip (EndsAs done) (map make_http hs.parts ++ map make_line ls.parts) outs =
-            subst (λ ds. AllZip (EndsAs done) ds outs) (joined ∙ ap (λ ds. ds ++ line_duties) hs.made ∙ ap (λ ds. map make_http hs.parts ++ ds) ls.made) zip in
-        let parts = two_parts (EndsAs done) (map make_http hs.parts) (map make_line ls.parts) outs whole in
-        record {
-          http_ends = map (end_by end_of) parts.front;
-          line_ends = map (end_by end_of) parts.rest;
-          joined = ap (λ os. map (end_by end_of) os) parts.joined ∙ ends_joined end_of parts.front parts.rest;
-          http_left = ends_leave make_http done (λ h. HttpGood h × (http_pass h ≡ first)) http_way end_of http_serves first http_leave hs.parts parts.front
-              (both_are HttpGood (λ h. http_pass h ≡ first) hs.parts hs.good (passes_are_first http_pass first hs.parts http_passes hs.passes_are http_first)) parts.of_front;
-          line_left = ends_leave make_line done (λ l. LineGood l × (line_pass l ≡ first)) line_way end_of line_serves first line_leave ls.parts parts.rest
-              (both_are LineGood (λ l. line_pass l ≡ first) ls.parts ls.good (passes_are_first line_pass first ls.parts line_passes ls.passes_are line_first)) parts.of_rest;
-        }
+    let whole : AllZip (EndsAs done) (map make_http hs.parts ++ map make_line ls.parts) outs =
+    subst (λ ds. AllZip (EndsAs done) ds outs) (joined ∙ ap (λ ds. ds ++ line_duties) hs.made ∙ ap (λ ds. map make_http hs.parts ++ ds) ls.made) zip in
+    let parts = two_parts (EndsAs done) (map make_http hs.parts) (map make_line ls.parts) outs whole in
+    record {
+      http_ends = map (end_by end_of) parts.front;
+      line_ends = map (end_by end_of) parts.rest;
+      joined = ap (λ os. map (end_by end_of) os) parts.joined ∙ ends_joined end_of parts.front parts.rest;
+      http_left = ends_leave make_http done (λ h. HttpGood h × (http_pass h ≡ first)) http_way end_of http_serves first http_leave hs.parts parts.front
+          (both_are HttpGood (λ h. http_pass h ≡ first) hs.parts hs.good (passes_are_first http_pass first hs.parts http_passes hs.passes_are http_first)) parts.of_front;
+      line_left = ends_leave make_line done (λ l. LineGood l × (line_pass l ≡ first)) line_way end_of line_serves first line_leave ls.parts parts.rest
+          (both_are LineGood (λ l. line_pass l ≡ first) ls.parts ls.good (passes_are_first line_pass first ls.parts line_passes ls.passes_are line_first)) parts.of_rest;
+    }
 
 -- what is worked under a policy, on a clock and with a pass is worked under those that are the same
 pub http_leaves : {X : Type 0} (states : X → ℕ → Type 0) (policy other : PlainPolicy) (clock another : X) (first pass : PlainPass) (way new : PlainWay)
@@ -155,9 +155,9 @@ pub ways_are_lent : {D : Type 0} (end_of : D → PlainEnd) (http_serves line_ser
     → IfSome late.lent (λ n. length outs ≤ n)
 ways_are_lent end_of http_serves line_serves first http line at_http at_line old mid late outs left gave_http gave_line =
     let many : length outs ≡ length at_http + length at_line =
-        sym (length-map outs (end_by end_of)) ∙ ap (λ (es : List (Option PlainEnd)). length es) left.joined ∙ length-append left.http_ends left.line_ends
-        ∙ ap (λ n. n + length left.line_ends) (zip_length (IfLeaves http_serves first) at_http left.http_ends left.http_left)
-        ∙ ap (λ n. length at_http + n) (zip_length (IfLeaves line_serves first) at_line left.line_ends left.line_left) in
+    sym (length-map outs (end_by end_of)) ∙ ap (λ (es : List (Option PlainEnd)). length es) left.joined ∙ length-append left.http_ends left.line_ends
+    ∙ ap (λ n. n + length left.line_ends) (zip_length (IfLeaves http_serves first) at_http left.http_ends left.http_left)
+    ∙ ap (λ n. length at_http + n) (zip_length (IfLeaves line_serves first) at_line left.line_ends left.line_left) in
     subst (λ told. IfSome told (λ n. length outs ≤ n)) (sym (gave_line.lent ∙ ap (λ told. more_by (length at_line) told) gave_http.lent))
     (all_lent old.lent (length at_http) (length at_line) (length outs) many)
 
@@ -260,6 +260,7 @@ ways_served serves first door port (way ∷ ways) (end ∷ ends) fresh zip well 
       number = ap (λ n. suc n) it.number;
       ends_are = ap (λ n. suc n) it.ends_are;
     }
+
 -- the ways had as many links as these
 head_is : (x y : Option ℕ) (xs ys : List (Option ℕ)) → (x ∷ xs) ≡ (y ∷ ys) → x ≡ y
 head_is x y xs ys is = grind (arith, is)
@@ -331,60 +332,60 @@ pub both_served : (book : Book) (rooms : Rooms) (policy : PlainPolicy) (is_day :
     → IsServed rooms policy is_day http line workers old new count
 both_served book rooms policy is_day http line workers old mid late new at_http at_line http_ends line_ends count gave_http gave_line http_many line_many
     http_left line_left taken =
-        let first = pass_of_none book rooms in
-        let back = none_of came_back http_ends line_ends (sym taken.any_back) in
-        let hs = worked_ends http_ends in
-        let ls = worked_ends line_ends in
-        let all = worked_more http_ends line_ends in
-        let well = none_of (λ (end : PlainEnd). end.has_failed) hs ls
-            (sym (taken.has_failed ∙ ap (λ (es : List PlainEnd). list_any (λ end. end.has_failed) es) all)) in
-        let h = ways_served (λ before end after. HasServedConnection (among_others before.rooms policy is_day) before end after) first Http http at_http hs
-            gave_http.fresh (subst (λ es. AllZip (IfLeaves (λ before end after. HasServedConnection (among_others before.rooms policy is_day) before end after) first) at_http es)
-            (all_worked http_ends back.0) http_left) well.0 in
-        let l = ways_served (λ before end after. HasServedLine policy.registry before end after) first Line line at_line ls
-            gave_line.fresh (subst (λ es. AllZip (IfLeaves (λ before end after. HasServedLine policy.registry before end after) first) at_line es)
-            (all_worked line_ends back.1) line_left) well.1 in
-        let http_other : Http ≢ Line = λ is. grind (arith, is) in
-        let line_other : Line ≢ Http = λ is. grind (arith, is) in
-        let total = sum_by-append (λ (e : PlainEnd). e.connections) hs ls in
-        let links = sum_by-append (λ (xs : List LinkRecord). length xs) h.links l.links in
-        let at_h = h.counts in
-        let at_l = l.counts in
-        let counted : min (sum_by (λ (e : PlainEnd). e.connections) (hs ++ ls)) most ≡ min (sum_by (λ (xs : List LinkRecord). length xs) (h.links ++ l.links)) most =
-            omega (arith, total, links, at_h, at_l) in
-        let many : length (worked_ends (http_ends ++ line_ends)) ≡ length at_http + length at_line =
-            ap (λ (es : List PlainEnd). length es) all ∙ length-append hs ls ∙ ap (λ n. n + length ls) h.ends_are ∙ ap (λ n. length at_http + n) l.ends_are in
-        record {
-          book = book;
-          http_links = h.links;
-          http_ways = map record_of hs;
-          line_links = l.links;
-          line_ways = map record_of ls;
-          at_http = record {
-            numbers = map (λ way. way.links_left) at_http;
-            each = h.each;
-            number = h.number ∙ http_many;
-            given = (taken.full Http).0 ∙ (gave_line.other Http http_other).1 ∙ gave_http.given ∙ ap (λ n. old.given Http + n) http_many;
-            all = all_came _ first Http http at_http h.links (map record_of hs) (old.to_come Http) (mid.to_come Http) (new.to_come Http) h.each gave_http.to_come
-                ((taken.full Http).1 ∙ (gave_line.other Http http_other).0);
-          };
-          at_line = record {
-            numbers = map (λ way. way.links_left) at_line;
-            each = l.each;
-            number = l.number ∙ line_many;
-            given = (taken.full Line).0 ∙ gave_line.given ∙ ap (λ n. n + length at_line) (gave_http.other Line line_other).1 ∙ ap (λ n. old.given Line + n) line_many;
-            all = all_came _ first Line line at_line l.links (map record_of ls) (old.to_come Line) (late.to_come Line) (new.to_come Line) l.each
-                (subst (λ told. IfSome told (IsFrontGiven at_line (late.to_come Line))) (gave_http.other Line line_other).0 gave_line.to_come)
-                (taken.full Line).1;
-          };
-          returned = taken.returned ∙ ap (λ told. with_more told (map record_of (worked_ends (http_ends ++ line_ends)))) (gave_line.returned ∙ gave_http.returned)
-              ∙ ap (λ (es : List PlainEnd). with_more old.returned (map record_of es)) all ∙ ap (λ rs. with_more old.returned rs) (records_more hs ls);
-          lent = lent_again old.lent new.lent (length at_http + length at_line)
-              (sym (lent_sum old.lent (length at_http) (length at_line)) ∙ ap (λ told. more_by (length at_line) told) (sym gave_http.lent) ∙ sym gave_line.lent
-              ∙ taken.lent ∙ ap (λ n. more_by n new.lent) many);
-          faults = ((taken.well refl) ∙ gave_line.faults) ∙ gave_http.faults;
-          number = taken.connections ∙ ap (λ (es : List PlainEnd). min (sum_by (λ e. e.connections) es) most) all ∙ counted;
-        }
+    let first = pass_of_none book rooms in
+    let back = none_of came_back http_ends line_ends (sym taken.any_back) in
+    let hs = worked_ends http_ends in
+    let ls = worked_ends line_ends in
+    let all = worked_more http_ends line_ends in
+    let well = none_of (λ (end : PlainEnd). end.has_failed) hs ls
+    (sym (taken.has_failed ∙ ap (λ (es : List PlainEnd). list_any (λ end. end.has_failed) es) all)) in
+    let h = ways_served (λ before end after. HasServedConnection (among_others before.rooms policy is_day) before end after) first Http http at_http hs
+    gave_http.fresh (subst (λ es. AllZip (IfLeaves (λ before end after. HasServedConnection (among_others before.rooms policy is_day) before end after) first) at_http es)
+    (all_worked http_ends back.0) http_left) well.0 in
+    let l = ways_served (λ before end after. HasServedLine policy.registry before end after) first Line line at_line ls
+    gave_line.fresh (subst (λ es. AllZip (IfLeaves (λ before end after. HasServedLine policy.registry before end after) first) at_line es)
+    (all_worked line_ends back.1) line_left) well.1 in
+    let http_other : Http ≢ Line = λ is. grind (arith, is) in
+    let line_other : Line ≢ Http = λ is. grind (arith, is) in
+    let total = sum_by-append (λ (e : PlainEnd). e.connections) hs ls in
+    let links = sum_by-append (λ (xs : List LinkRecord). length xs) h.links l.links in
+    let at_h = h.counts in
+    let at_l = l.counts in
+    let counted : min (sum_by (λ (e : PlainEnd). e.connections) (hs ++ ls)) most ≡ min (sum_by (λ (xs : List LinkRecord). length xs) (h.links ++ l.links)) most =
+    omega (arith, total, links, at_h, at_l) in
+    let many : length (worked_ends (http_ends ++ line_ends)) ≡ length at_http + length at_line =
+    ap (λ (es : List PlainEnd). length es) all ∙ length-append hs ls ∙ ap (λ n. n + length ls) h.ends_are ∙ ap (λ n. length at_http + n) l.ends_are in
+    record {
+      book = book;
+      http_links = h.links;
+      http_ways = map record_of hs;
+      line_links = l.links;
+      line_ways = map record_of ls;
+      at_http = record {
+        numbers = map (λ way. way.links_left) at_http;
+        each = h.each;
+        number = h.number ∙ http_many;
+        given = (taken.full Http).0 ∙ (gave_line.other Http http_other).1 ∙ gave_http.given ∙ ap (λ n. old.given Http + n) http_many;
+        all = all_came _ first Http http at_http h.links (map record_of hs) (old.to_come Http) (mid.to_come Http) (new.to_come Http) h.each gave_http.to_come
+            ((taken.full Http).1 ∙ (gave_line.other Http http_other).0);
+      };
+      at_line = record {
+        numbers = map (λ way. way.links_left) at_line;
+        each = l.each;
+        number = l.number ∙ line_many;
+        given = (taken.full Line).0 ∙ gave_line.given ∙ ap (λ n. n + length at_line) (gave_http.other Line line_other).1 ∙ ap (λ n. old.given Line + n) line_many;
+        all = all_came _ first Line line at_line l.links (map record_of ls) (old.to_come Line) (late.to_come Line) (new.to_come Line) l.each
+            (subst (λ told. IfSome told (IsFrontGiven at_line (late.to_come Line))) (gave_http.other Line line_other).0 gave_line.to_come)
+            (taken.full Line).1;
+      };
+      returned = taken.returned ∙ ap (λ told. with_more told (map record_of (worked_ends (http_ends ++ line_ends)))) (gave_line.returned ∙ gave_http.returned)
+          ∙ ap (λ (es : List PlainEnd). with_more old.returned (map record_of es)) all ∙ ap (λ rs. with_more old.returned rs) (records_more hs ls);
+      lent = lent_again old.lent new.lent (length at_http + length at_line)
+          (sym (lent_sum old.lent (length at_http) (length at_line)) ∙ ap (λ told. more_by (length at_line) told) (sym gave_http.lent) ∙ sym gave_line.lent
+          ∙ taken.lent ∙ ap (λ n. more_by n new.lent) many);
+      faults = ((taken.well refl) ∙ gave_line.faults) ∙ gave_http.faults;
+      number = taken.connections ∙ ap (λ (es : List PlainEnd). min (sum_by (λ e. e.connections) es) most) all ∙ counted;
+    }
 
 -- ---- results
 
@@ -401,9 +402,9 @@ all_served end_of book rooms policy is_day http line workers old mid late new at
     taken = taken
 all_served end_of book rooms policy is_day http line workers old mid late new at_http at_line outs (Ok count) left gave_http gave_line http_many line_many
     taken =
-        both_served book rooms policy is_day http line workers old mid late new at_http at_line left.http_ends left.line_ends count gave_http gave_line
-        http_many line_many left.http_left left.line_left
-        (subst (λ ends. AreTakenBack late ends new (record { connections = count; has_failed = false; any_back = false })) left.joined taken)
+    both_served book rooms policy is_day http line workers old mid late new at_http at_line left.http_ends left.line_ends count gave_http gave_line
+    http_many line_many left.http_left left.line_left
+    (subst (λ ends. AreTakenBack late ends new (record { connections = count; has_failed = false; any_back = false })) left.joined taken)
 
 pub ok_of : (r : Result ℕ ServeFault) → r ≢ Err GateFault → r ≢ Err Spawn → r ≢ Err NoMemory → IsOk r
 ok_of (Ok x) a b c = refl

@@ -115,15 +115,15 @@ pub one_more_made : {H D P : Type 0} (make : H → D) (way_of : H → PlainWay) 
     → AreDuties make way_of pass_of Good door port old passes next after new
 one_more_made make way_of pass_of Good door port old passes left next duties after mid new part so_far one_less one_more well fresh to_come given lent other
     returned faults =
-        let more = one_more_given door port old (map way_of so_far.parts) mid (way_of part) new so_far.given fresh to_come given lent other returned faults in
-        record {
-          parts = so_far.parts ++ part ∷ [];
-          made = one_more ∙ ap (λ ds. ds ++ make part ∷ []) so_far.made ∙ sym (map_more make so_far.parts part);
-          given = subst (λ ways. HasGiven door port old ways new) (sym (map_more way_of so_far.parts part)) more;
-          passes_are = ap (λ ps. ps ++ next) (map_more pass_of so_far.parts part) ∙ append_assoc (map pass_of so_far.parts) (pass_of part ∷ []) next
-              ∙ ap (λ ps. map pass_of so_far.parts ++ ps) (sym one_less) ∙ so_far.passes_are;
-          good = All-push Good so_far.parts part so_far.good well;
-        }
+    let more = one_more_given door port old (map way_of so_far.parts) mid (way_of part) new so_far.given fresh to_come given lent other returned faults in
+    record {
+      parts = so_far.parts ++ part ∷ [];
+      made = one_more ∙ ap (λ ds. ds ++ make part ∷ []) so_far.made ∙ sym (map_more make so_far.parts part);
+      given = subst (λ ways. HasGiven door port old ways new) (sym (map_more way_of so_far.parts part)) more;
+      passes_are = ap (λ ps. ps ++ next) (map_more pass_of so_far.parts part) ∙ append_assoc (map pass_of so_far.parts) (pass_of part ∷ []) next
+          ∙ ap (λ ps. map pass_of so_far.parts ++ ps) (sym one_less) ∙ so_far.passes_are;
+      good = All-push Good so_far.parts part so_far.good well;
+    }
 
 -- ---- what a gate says of a way that it gives
 
