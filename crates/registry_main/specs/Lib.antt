@@ -7,3 +7,4 @@ pub mod PolicyBytes
 pub mod Published
 pub mod Mirror
 pub mod Load
+pub mod Serve

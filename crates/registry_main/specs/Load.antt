@@ -1,9 +1,7 @@
 -- What the command `load` writes, where the bytes are known.
-use Rattle.std.specs.Prelude.{◌≡◌, ℕ, Bool, true, false, List, Option, None, Some}
+use Rattle.std.specs.Prelude.{◌≡◌, ℕ, List, Option}
 use Rattle.std.specs.Io.KnownBytes.{Appends}
 use Rattle.reg_entry.specs.Policy.{PlainPolicy}
-use Rattle.command_words.specs.declared.command.Command.{Command}
-use Rattle.command_words.specs.declared.command.Command.TheVariants.{Load}
 use Rattle.policy_table.specs.Policy.{first_name}
 use Rattle.load_gen.specs.Load.{load_text}
 use Rattle.registry_main.specs.declared.exit.Exit.{Exit}
@@ -15,8 +13,3 @@ use Rattle.registry_main.specs.Session.{rooms}
 pub record IsLoaded (policy : PlainPolicy) (seed requests : ℕ) (before : Option (List ℕ)) (result : Exit) (after : Option (List ℕ)) : Type 0 where
   pub front : IsFrontWritten before (load_text rooms policy (first_name policy.hostmasters) seed requests) after
   pub done : result ≡ Done → Appends before after (load_text rooms policy (first_name policy.hostmasters) seed requests)
-
--- a load reads nothing of the script
-abbrev pub reads_script : Option Command → Bool
-reads_script (Some (Load seed requests)) = false
-reads_script command = true

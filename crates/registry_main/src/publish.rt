@@ -13,9 +13,9 @@ ghost use Rattle.registry_main.specs.declared.exit.Exit.TheVariants.{Done, Usage
 ghost use Rattle.registry_main.specs.declared.publish.Unpublished.TheVariants.{Read, Write, Memory};
 
 use crate::apply::apply_script;
-use command_words::Publication;
 use crate::exit::Exit;
 use crate::session::Session;
+use command_words::Publication;
 use link_face::{Clock, Failed, Sink, Source};
 use policy_table::Policy;
 use reverse_zone::{Apex, apexes};

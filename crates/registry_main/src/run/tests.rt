@@ -1,7 +1,8 @@
 //! Scripts over memory, with the answers that a person works out.
 use super::*;
 use crate::samples::{FREE_ROW, policy_of};
-use link_face::{FailingSink, FailingSource, FixedDay, MemSink, MemSource};
+use door_face::{InTurn, MemGate};
+use link_face::{FailingSink, FailingSource, FixedDay, MemLink, MemSink, MemSource};
 use std::test::Fail;
 
 mod faults;
@@ -42,7 +43,17 @@ fn answer(
     let mut policy = FailingSource::new(MemSource::in_pieces(&bytes, 100), plan.policy);
     let mut script = FailingSource::new(MemSource::in_pieces(script, piece.max(1)), plan.script);
     let mut out = FailingSink::new(MemSink::new(rt.alloc()), plan.out, plan.passes);
-    let exit = run(rt, &words, &mut policy, &mut script, &mut out, &mut DAY);
+    let mut gate: MemGate<MemLink<'static>> = MemGate::new(rt.alloc());
+    let exit = run(
+        rt,
+        &words,
+        &mut policy,
+        &mut script,
+        &mut out,
+        &DAY,
+        &mut gate,
+        &mut InTurn,
+    );
     Ok((exit, out.bytes().to_vec(rt.alloc())?))
 }
 

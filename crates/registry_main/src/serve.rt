@@ -1,0 +1,65 @@
+//! Serving both doors, and how many connections there were.
+ghost use Rattle.std.specs.Prelude.{◌≡◌, ◌≢◌, ◌≤◌, ◌⊎◌, IfOk};
+ghost use Rattle.std.specs.String.{string_bytes};
+ghost use Rattle.link_face.specs.Faults.{HasRisen};
+ghost use Rattle.serve_run.specs.Gate.{plain_gate};
+ghost use Rattle.registry_main.specs.Serve.{IsServedFor, service_text};
+ghost use Rattle.registry_main.specs.declared.exit.Exit.TheVariants.{Done, ReadFault, WriteFault, NoMemory, SpawnFault};
+
+use crate::exit::Exit;
+use crate::session::ROOMS;
+use door_face::{Gate, Spawner};
+use link_face::{Clock, Failed, Sink};
+use policy_table::Policy;
+use serve_run::{Doors, ServeFault, serve};
+use std::alloc::{AllocError, Global};
+use std::sync::Wait;
+use std::thread::Threads;
+
+/// Serves both doors under a policy until every way has ended, and writes how many connections there were.
+#[tactic(auto, using(crate::proofs::Written::prefix_begins))]
+pub fn answer_serve<R: Threads + Wait + Sync, K: Sink, C: Clock + Sync, G: Gate, P: Spawner>(
+    rt: &R,
+    alloc: Global,
+    policy: &Policy,
+    doors: Doors,
+    out: &mut K,
+    clock: &C,
+    gate: &mut G,
+    spawner: &mut P,
+) -> Exit
+    requires workers { 1 ≤ doors.workers }
+    ensures served { ((result ≢ Done) × (out.new ≡ out.old))
+        ⊎ IsServedFor policy.now (C.states clock.now) doors.http doors.line doors.workers
+        (plain_gate (G.given gate.old) (G.to_come gate.old) (G.lent gate.old) (G.returned gate.old) (G.faults gate.old))
+        (plain_gate (G.given gate.new) (G.to_come gate.new) (G.lent gate.new) (G.returned gate.new) (G.faults gate.new))
+        (K.written out.old) result (K.written out.new) }
+    ensures ends { (result ≡ Done) ⊎ (result ≡ ReadFault) ⊎ (result ≡ WriteFault) ⊎ (result ≡ NoMemory) ⊎ (result ≡ SpawnFault) }
+    ensures read { result ≡ ReadFault → HasRisen (G.faults gate.old) (G.faults gate.new) }
+    ensures gate_told { result ≢ ReadFault → result ≢ SpawnFault → G.faults gate.new ≡ G.faults gate.old }
+    ensures spawn { result ≡ SpawnFault → HasRisen (P.faults spawner.old) (P.faults spawner.new) }
+    ensures spawn_told { result ≢ SpawnFault → P.faults spawner.new ≡ P.faults spawner.old }
+    ensures write { result ≡ WriteFault → HasRisen (K.faults out.old) (K.faults out.new) }
+    ensures write_told { result ≢ WriteFault → K.faults out.new ≡ K.faults out.old }
+{
+    let connections = match serve(rt, alloc, ROOMS, policy, doors, clock, gate, spawner) {
+        Ok(connections) => connections,
+        Err(ServeFault::NoMemory) => return Exit::NoMemory,
+        Err(ServeFault::Gate) => return Exit::ReadFault,
+        Err(ServeFault::Spawn) => return Exit::SpawnFault,
+    };
+    let Ok(text) = service_text(alloc, connections) else {
+        return Exit::NoMemory;
+    };
+    match out.write(text.as_bytes()) {
+        Ok(()) => Exit::Done,
+        Err(Failed) => Exit::WriteFault,
+    }
+}
+
+/// The line that tells of so many connections.
+fn service_text(alloc: Global, connections: u64) -> Result<String, AllocError>
+    ensures { IfOk result (λ text. string_bytes text ≡ service_text connections) }
+{
+    format!(in alloc; "connections: {connections}\n")
+}
