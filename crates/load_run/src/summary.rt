@@ -91,6 +91,20 @@ fn append_summary(load: &Load<'_>, body: &mut Body) -> Result<(), AllocError>
     append_space(board, Space::Ipv6, body)
 }
 
+/// The summary.
+fn summary_of(alloc: Global, load: &Load<'_>) -> Result<Body, AllocError>
+    ensures { IfOk result (λ body. body ≡ summary_text load.now) }
+{
+    let mut body = Body::new(alloc);
+    append_summary(load, &mut body)?;
+    Ok(body)
+}
+
+/// Lets a load go. It is a function of its own, so that this is proved apart from the summary.
+fn discard(load: Load<'_>) {
+    drop(load);
+}
+
 /// The summary of a load: the requests with which every one begins, and then so many draws of the seed, asked of a register
 /// that begins empty. The register is let go.
 pub fn write_load(
@@ -104,7 +118,7 @@ pub fn write_load(
     ensures { IfOk result (λ body. body ≡ load_text rooms policy.now (first_name policy.now.hostmasters) seed count) }
 {
     let load = load_of(alloc, rooms, policy, seed, count)?;
-    let mut body = Body::new(alloc);
-    append_summary(&load, &mut body)?;
-    Ok(body)
+    let summary = summary_of(alloc, &load);
+    discard(load);
+    summary
 }
