@@ -4,7 +4,7 @@ use Rattle.std.specs.Result.{IsOk, IfOk}
 use Rattle.std.specs.List.{list_any, sum_by, AllZip}
 use Rattle.std.proofs.lemmas.List.Sums.{sum_by-append, sum_by-cons}
 use Rattle.std.proofs.lemmas.List.{length-map}
-use Rattle.std.proofs.lemmas.List.Elements.{All-nil, All-cons, All-head, All-tail, All-append}
+use Rattle.std.proofs.lemmas.List.Elements.{All-nil, All-cons, All-head, All-tail, All-append, All-weaker}
 use Rattle.logbook.specs.Pages.{Book}
 use Rattle.reg_entry.specs.Policy.{PlainPolicy}
 use Rattle.reg_entry.specs.declared.rooms.Rooms.{Rooms}
@@ -16,6 +16,7 @@ use Rattle.door_face.specs.Doors.{LinkRecord, WayRecord, more_by}
 use Rattle.door_face.specs.Duties.{EndsAs}
 use Rattle.link_face.specs.Faults.{HasRisen}
 use Rattle.snapshot_pub.specs.Pass.{PlainPass}
+use Rattle.desk_book.specs.Book.{PlainBook, first_pass}
 use Rattle.hall.specs.Desk.{among_others}
 use Rattle.door_duty.specs.Along.{PlainWay, HasEnded, with_more}
 use Rattle.door_duty.specs.Served.{HasServedConnection, HasServedLine, IsWorked}
@@ -417,3 +418,13 @@ pub length_by : {H W P : Type 0} (make : H → W) (way_of : H → PlainWay) (pas
     → (it : AreDuties make way_of pass_of Good door port old passes [] duties new) → length passes ≡ n → length (map way_of it.parts) ≡ n
 length_by make way_of pass_of Good door port old passes duties new n it many =
     length-map it.parts way_of ∙ sym (length-map it.parts pass_of) ∙ ap (λ ps. length ps) (sym (append-nil (map pass_of it.parts)) ∙ it.passes_are) ∙ many
+
+-- the first passes of a book without entries
+pub passes_of_none : (book : Book) (rooms : Rooms) (b : PlainBook) (passes : List PlainPass) → b.book ≡ book → b.rooms ≡ rooms → b.entries ≡ []
+    → All (λ p. p ≡ first_pass b) passes → All (λ p. p ≡ pass_of_none book rooms) passes
+passes_of_none book rooms b passes same_book same_rooms none all =
+    let same : first_pass b ≡ pass_of_none book rooms =
+    ap (λ x. record { book = x; rooms = b.rooms; entries = b.entries; shuts = 0 }) same_book
+    ∙ ap (λ x. record { book = book; rooms = x; entries = b.entries; shuts = 0 }) same_rooms
+    ∙ ap (λ x. record { book = book; rooms = rooms; entries = x; shuts = 0 }) none in
+    All-weaker (λ p. p ≡ first_pass b) (λ p. p ≡ pass_of_none book rooms) (λ p first. first ∙ same) passes all

@@ -10,7 +10,7 @@ use policy_table::Policy;
 use reg_entry::{Name, Rooms};
 use snapshot_pub::Pass;
 use std::alloc::{AllocError, Global};
-use std::marker::Brand;
+use std::marker::{Brand, PhantomData};
 use std::sync::Wait;
 use std::test::Fail;
 use wire_http::{ConnEnd, Framer};
@@ -86,27 +86,32 @@ source: EXREG
     \n-g EXREG:3:6-LAST\n\x1f%ERROR: malformed query\n\x1f-\x1e\
     \x1f%ERROR: malformed query\n\x1f-";
 
+/// A pass of the snapshots that are named.
+#[derive(Drop)]
+struct Seat<N: Naming> {
+    pass: Pass,
+    of: PhantomData<N>,
+    ghost named: { (pass.book ≡ N.book) × (pass.rooms ≡ N.rooms) },
+}
+
 /// How a line was answered: how the connection ended, over how many entries, and how many bytes of the answer were written, if
 /// what was written is a front of it.
 type Told = (ConnEnd, Option<u64>, Option<usize>);
 
 /// Asks by a line in single bytes, over a link of which these calls fail.
-fn asked(
+fn asked<N: Naming>(
     alloc: Global,
-    pass: &mut Pass,
+    seat: &mut Seat<N>,
     registry: &Name,
     line: &[u8],
     answer: &[u8],
     calls: (&[u64], &[u64]),
-) -> Told
-    ensures book { pass.new.book ≡ pass.old.book }
-    ensures rooms { pass.new.rooms ≡ pass.old.rooms }
-{
+) -> Told {
     let mut link = Joined {
         source: FailingSource::new(MemSource::in_pieces(line, 1), calls.0),
         sink: FailingSink::new(MemSink::new(alloc), calls.1, 10),
     };
-    let (end, entries) = serve_line(alloc, &mut link, pass, registry);
+    let (end, entries) = serve_line(alloc, &mut link, &mut seat.pass, registry);
     let written = link.sink.bytes();
     let front = if answer.starts_with(written) {
         Some(written.len())
@@ -117,7 +122,11 @@ fn asked(
 }
 
 /// The first line that isn't answered as the table says.
-fn first_misread(alloc: Global, pass: &mut Pass, registry: &Name) -> Option<&'static str> {
+fn first_misread<N: Naming>(
+    alloc: Global,
+    seat: &mut Seat<N>,
+    registry: &Name,
+) -> Option<&'static str> {
     for row in LINES.split('\x1e') {
         let Some((line, rest)) = row.split_once('\x1f') else {
             return Some(row);
@@ -127,7 +136,7 @@ fn first_misread(alloc: Global, pass: &mut Pass, registry: &Name) -> Option<&'st
         };
         let entries = if count == "3" { Some(3) } else { None };
         let answer = answer.as_bytes();
-        let told = asked(alloc, pass, registry, line.as_bytes(), answer, (&[], &[]));
+        let told = asked(alloc, seat, registry, line.as_bytes(), answer, (&[], &[]));
         if told != (ConnEnd::Closed, entries, Some(answer.len())) {
             return Some(line);
         }
@@ -136,15 +145,15 @@ fn first_misread(alloc: Global, pass: &mut Pass, registry: &Name) -> Option<&'st
 }
 
 /// Whether lines that are too long ask for nothing, and a link that fails has a front of the answer.
-fn ends_early(alloc: Global, pass: &mut Pass, registry: &Name) -> bool {
+fn ends_early<N: Naming>(alloc: Global, seat: &mut Seat<N>, registry: &Name) -> bool {
     let malformed = b"%ERROR: malformed query\n";
     let long = [b'x'; 1100];
     let line = b"-g EXREG:3:6-LAST\n";
     let none_newer = b"% no newer operations\n";
-    asked(alloc, pass, registry, &long, malformed, (&[], &[])) == (ConnEnd::Closed, None, Some(24))
-        && asked(alloc, pass, registry, line, none_newer, (&[4], &[]))
+    asked(alloc, seat, registry, &long, malformed, (&[], &[])) == (ConnEnd::Closed, None, Some(24))
+        && asked(alloc, seat, registry, line, none_newer, (&[4], &[]))
             == (ConnEnd::ReadFault, None, Some(0))
-        && asked(alloc, pass, registry, line, none_newer, (&[], &[0]))
+        && asked(alloc, seat, registry, line, none_newer, (&[], &[0]))
             == (ConnEnd::WriteFault, Some(3), Some(10))
 }
 
@@ -154,15 +163,10 @@ fn conversed<N: Naming, R: Wait + Drop, W: Wait>(
     rt: &W,
     alloc: Global,
     desk: &Desk<N, R>,
-    pass: &mut Pass,
+    seat: &mut Seat<N>,
     messages: &str,
     calls: (&[u64], &[u64]),
-) -> Result<Option<(ConnEnd, bool)>, AllocError>
-    requires book { pass.old.book ≡ N.book }
-    requires rooms { pass.old.rooms ≡ N.rooms }
-    ensures book { pass.new.book ≡ pass.old.book }
-    ensures rooms { pass.new.rooms ≡ pass.old.rooms }
-{
+) -> Result<Option<(ConnEnd, bool)>, AllocError> {
     let talk = joined(alloc, messages)?;
     let Ok(policy) = Policy::read(alloc, POLICY) else {
         return Ok(None);
@@ -179,7 +183,7 @@ fn conversed<N: Naming, R: Wait + Drop, W: Wait>(
         &mut link,
         &mut framer,
         desk,
-        pass,
+        &mut seat.pass,
         &policy,
         &clock,
     );
@@ -194,23 +198,20 @@ fn lines_follow<N: Naming, R: Wait + Drop, W: Wait>(
     rt: &W,
     alloc: Global,
     desk: &Desk<N, R>,
-    pass: &mut Pass,
-) -> Result<bool, AllocError>
-    requires book { pass.old.book ≡ N.book }
-    requires rooms { pass.old.rooms ≡ N.rooms }
-{
+    seat: &mut Seat<N>,
+) -> Result<bool, AllocError> {
     // The requests of three entries, and lookups.
     let Some((front, _)) = EACH_KIND.split_once("\x1eHEAD") else {
         return Ok(false);
     };
-    if conversed(rt, alloc, desk, pass, front, (&[], &[]))? != Some((ConnEnd::Closed, true)) {
+    if conversed(rt, alloc, desk, seat, front, (&[], &[]))? != Some((ConnEnd::Closed, true)) {
         return Ok(false);
     }
     let Ok(policy) = Policy::read(alloc, POLICY) else {
         return Ok(false);
     };
     let registry = policy.registry();
-    Ok(first_misread(alloc, pass, registry).is_none() && ends_early(alloc, pass, registry))
+    Ok(first_misread(alloc, seat, registry).is_none() && ends_early(alloc, seat, registry))
 }
 
 /// Whether messages of all kinds are answered with their codes, as without a desk.
@@ -218,12 +219,9 @@ fn codes_are_alike<N: Naming, R: Wait + Drop, W: Wait>(
     rt: &W,
     alloc: Global,
     desk: &Desk<N, R>,
-    pass: &mut Pass,
-) -> Result<bool, AllocError>
-    requires book { pass.old.book ≡ N.book }
-    requires rooms { pass.old.rooms ≡ N.rooms }
-{
-    Ok(conversed(rt, alloc, desk, pass, EACH_KIND, (&[], &[]))? == Some((ConnEnd::Closed, true)))
+    seat: &mut Seat<N>,
+) -> Result<bool, AllocError> {
+    Ok(conversed(rt, alloc, desk, seat, EACH_KIND, (&[], &[]))? == Some((ConnEnd::Closed, true)))
 }
 
 /// Whether a front of what is to be answered is written where any one of the link's calls fails.
@@ -231,20 +229,17 @@ fn fronts_are_written<N: Naming, R: Wait + Drop, W: Wait>(
     rt: &W,
     alloc: Global,
     desk: &Desk<N, R>,
-    pass: &mut Pass,
-) -> Result<bool, AllocError>
-    requires book { pass.old.book ≡ N.book }
-    requires rooms { pass.old.rooms ≡ N.rooms }
-{
+    seat: &mut Seat<N>,
+) -> Result<bool, AllocError> {
     // Each byte of the two messages is a read, and so is their end.
     for call in 0..64 {
-        let told = conversed(rt, alloc, desk, pass, TWO_LOOKUPS, (&[call], &[]))?;
+        let told = conversed(rt, alloc, desk, seat, TWO_LOOKUPS, (&[call], &[]))?;
         if told != Some((ConnEnd::ReadFault, true)) {
             return Ok(false);
         }
     }
     for call in 0..2 {
-        let told = conversed(rt, alloc, desk, pass, TWO_LOOKUPS, (&[], &[call]))?;
+        let told = conversed(rt, alloc, desk, seat, TWO_LOOKUPS, (&[], &[call]))?;
         if told != Some((ConnEnd::WriteFault, true)) {
             return Ok(false);
         }
@@ -265,17 +260,21 @@ fn goes_well<N: Naming, R: Wait + Drop, W: Wait>(
     own: R,
     alloc: Global,
     book: Book,
-    mut pass: Pass,
+    pass: Pass,
     tried: Tried,
 ) -> Result<bool, AllocError>
     requires book { (book.book ≡ N.book) × (book.rooms ≡ N.rooms) }
     requires pass { (pass.book ≡ N.book) × (pass.rooms ≡ N.rooms) }
 {
     let desk = Desk::<N, R>::new(book, own);
+    let mut seat = Seat {
+        pass,
+        of: PhantomData,
+    };
     let well = match tried {
-        Tried::Lines => lines_follow(rt, alloc, &desk, &mut pass),
-        Tried::Codes => codes_are_alike(rt, alloc, &desk, &mut pass),
-        Tried::Faults => fronts_are_written(rt, alloc, &desk, &mut pass),
+        Tried::Lines => lines_follow(rt, alloc, &desk, &mut seat),
+        Tried::Codes => codes_are_alike(rt, alloc, &desk, &mut seat),
+        Tried::Faults => fronts_are_written(rt, alloc, &desk, &mut seat),
     };
     desk.end().close(rt);
     well
