@@ -43,5 +43,5 @@ pub summary_is_written : (policy : PlainPolicy) (seed requests : ℕ) (before af
     → IsLoaded policy seed requests before Done after
 summary_is_written policy seed requests before after text same all =
     let written : Appends before after (load_text rooms policy (first_name policy.hostmasters) seed requests) =
-        subst (λ (bytes : List ℕ). Appends before after bytes) same all in
+    subst (λ (bytes : List ℕ). Appends before after bytes) same all in
     record { front = appended_begins before after (load_text rooms policy (first_name policy.hostmasters) seed requests) written; done = λ is. written }

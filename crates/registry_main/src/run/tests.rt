@@ -31,8 +31,8 @@ const NO_FAULTS: Plan<'static> = Plan {
 };
 
 /// The end of a run of a command over a script that comes in pieces, and what it writes.
-fn answer(
-    rt: &HostRuntime,
+fn answer<R: AllocGlobal + Threads + Wait + Sync>(
+    rt: &R,
     command: &str,
     script: &[u8],
     piece: usize,
@@ -58,7 +58,12 @@ fn answer(
 }
 
 /// Whether a command writes so over a script, to its end, in whatever pieces it comes.
-fn is_written(rt: &HostRuntime, command: &str, script: &[u8], wanted: &[u8]) -> Result<bool, Fail> {
+fn is_written<R: AllocGlobal + Threads + Wait + Sync>(
+    rt: &R,
+    command: &str,
+    script: &[u8],
+    wanted: &[u8],
+) -> Result<bool, Fail> {
     for piece in [1usize, 7, 8192] {
         let (exit, written) = answer(rt, command, script, piece, &NO_FAULTS)?;
         if exit != Exit::Done || written.as_slice() != wanted {
@@ -69,6 +74,10 @@ fn is_written(rt: &HostRuntime, command: &str, script: &[u8], wanted: &[u8]) -> 
 }
 
 /// Whether a script is answered so.
-fn is_answered(rt: &HostRuntime, script: &[u8], answers: &[u8]) -> Result<bool, Fail> {
+fn is_answered<R: AllocGlobal + Threads + Wait + Sync>(
+    rt: &R,
+    script: &[u8],
+    answers: &[u8],
+) -> Result<bool, Fail> {
     is_written(rt, "batch", script, answers)
 }
