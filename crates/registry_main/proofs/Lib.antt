@@ -9,4 +9,3 @@ mod Rows
 pub mod Shown
 pub mod UpToDate
 pub mod Written
-pub mod AtOnce
