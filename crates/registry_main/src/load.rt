@@ -1,8 +1,10 @@
 //! A load, and its summary.
 ghost use Rattle.std.specs.Prelude.{◌≡◌, ◌≢◌, ◌⊎◌};
 ghost use Rattle.link_face.specs.Faults.{HasRisen};
+ghost use Rattle.mirror_core.specs.declared.fault.FeedFault.{FeedFault};
+ghost use Rattle.policy_table.specs.declared.fault.PolicyFault.{PolicyFault};
 ghost use Rattle.registry_main.specs.Load.{IsLoaded};
-ghost use Rattle.registry_main.specs.declared.exit.Exit.TheVariants.{Done, WriteFault, NoMemory};
+ghost use Rattle.registry_main.specs.declared.exit.Exit.TheVariants.{Usage, PolicyRefused, ReadFault, WriteFault, NoMemory, SpawnFault, FeedRefused};
 
 use crate::exit::Exit;
 use crate::session::ROOMS;
@@ -21,7 +23,11 @@ pub fn answer_load<K: Sink>(
     out: &mut K,
 ) -> Exit
     ensures loaded { IsLoaded policy.now seed requests (K.written out.old) result (K.written out.new) }
-    ensures ends { (result ≡ Done) ⊎ (result ≡ WriteFault) ⊎ (result ≡ NoMemory) }
+    ensures no_usage { result ≢ Usage }
+    ensures no_refusal { (fault : PolicyFault) → result ≢ PolicyRefused fault }
+    ensures no_feed { (fault : FeedFault) → result ≢ FeedRefused fault }
+    ensures no_spawn { result ≢ SpawnFault }
+    ensures no_read { result ≢ ReadFault }
     ensures unwritten { result ≡ NoMemory → out.new ≡ out.old }
     ensures write { result ≡ WriteFault → HasRisen (K.faults out.old) (K.faults out.new) }
     ensures write_told { result ≢ WriteFault → K.faults out.new ≡ K.faults out.old }

@@ -7,6 +7,7 @@ mod answer;
 mod answer_line;
 mod apply;
 mod batch;
+mod command;
 mod due_lines;
 mod exit;
 mod laws;

@@ -42,59 +42,22 @@ ghost use Rattle.command_words.specs.declared.command.Publication.{Publication};
 ghost use Rattle.command_words.specs.declared.command.Publication.TheVariants.{Statistics};
 ghost use Rattle.registry_main.specs.declared.exit.Exit.TheVariants.{Done, Usage, PolicyRefused, ReadFault, WriteFault, NoMemory, SpawnFault, FeedRefused};
 
-use crate::batch::{Stop, answer_script};
+use crate::command::answer_command;
 use crate::exit::Exit;
 use crate::laws::{
     accepted_entries_are_legal, answers_are_least, mirrors_follow_registers, scripts_conserve,
     statistics_conserve, zones_are_delegated,
 };
-use crate::load::answer_load;
-use crate::mirror::answer_mirror;
 use crate::policy_bytes::{NoPolicy, read_policy};
-use crate::publish::answer_publication;
 use crate::serve::answer_serve;
-use crate::session::Session;
 use command_words::Command;
 use command_words::laws::commands_have_one_list_of_words;
 use door_face::{Gate, Spawner};
 use link_face::{Clock, Sink, Source};
 use load_run::laws::loads_conserve;
-use policy_table::Policy;
 use serve_run::Doors;
-use std::alloc::Global;
 use std::sync::Wait;
 use std::thread::Threads;
-
-/// Answers a script under a policy, on a day of the clock.
-fn answer_batch<T: Source, K: Sink, C: Clock>(
-    alloc: Global,
-    policy: Policy,
-    script: &mut T,
-    out: &mut K,
-    clock: &C,
-) -> Exit
-    ensures answered { (day : ℕ) × C.states clock.now day
-        × IsAnswered policy day (known (T.taken script.old) (T.left script.old) (K.written out.old)) result
-        (known (T.taken script.new) (T.left script.new) (K.written out.new)) }
-    ensures ended { result ≡ Done → T.has_ended script.new }
-    ensures unread { result ≡ NoMemory → (script.new ≡ script.old) × (out.new ≡ out.old) }
-    ensures no_usage { result ≢ Usage }
-    ensures no_refusal { (fault : PolicyFault) → result ≢ PolicyRefused fault }
-    ensures no_feed { (fault : FeedFault) → result ≢ FeedRefused fault }
-    ensures read { result ≡ ReadFault → HasRisen (T.faults script.old) (T.faults script.new) }
-    ensures read_told { result ≢ ReadFault → T.faults script.new ≡ T.faults script.old }
-    ensures write { result ≡ WriteFault → HasRisen (K.faults out.old) (K.faults out.new) }
-    ensures write_told { result ≢ WriteFault → K.faults out.new ≡ K.faults out.old }
-{
-    let Ok(mut session) = Session::new(alloc, policy, clock.day()) else {
-        return Exit::NoMemory;
-    };
-    match answer_script(&mut session, script, out) {
-        Ok(()) => Exit::Done,
-        Err(Stop::Read) => Exit::ReadFault,
-        Err(Stop::Write) => Exit::WriteFault,
-    }
-}
 
 /// Does what the words say, by the rules of the policy: `batch` answers the script line by line; `serve` serves both doors,
 /// and writes how many connections there were; `stats` and `zones` write the statistics file and the reverse zones of the
@@ -264,7 +227,6 @@ pub fn run<
     };
     match read_policy(rt.alloc(), policy) {
         Ok(policy) => match command {
-            Command::Batch => answer_batch(rt.alloc(), policy, script, out, clock),
             Command::Serve {
                 http,
                 line,
@@ -277,13 +239,7 @@ pub fn run<
                 };
                 answer_serve(rt, rt.alloc(), &policy, doors, out, clock, gate, spawner)
             }
-            Command::Publish(what) => {
-                answer_publication(rt.alloc(), policy, what, script, out, clock)
-            }
-            Command::Mirror => answer_mirror(rt.alloc(), policy.registry(), script, out),
-            Command::Load { seed, requests } => {
-                answer_load(rt.alloc(), &policy, seed, requests, out)
-            }
+            command => answer_command(rt.alloc(), command, policy, script, out, clock),
         },
         Err(NoPolicy::Read) => Exit::ReadFault,
         Err(NoPolicy::Refused(fault)) => Exit::PolicyRefused(fault),

@@ -2,9 +2,11 @@
 ghost use Rattle.std.specs.Prelude.{◌≡◌, ◌≢◌, ◌≤◌, ◌⊎◌, IfOk};
 ghost use Rattle.std.specs.String.{string_bytes};
 ghost use Rattle.link_face.specs.Faults.{HasRisen};
+ghost use Rattle.mirror_core.specs.declared.fault.FeedFault.{FeedFault};
+ghost use Rattle.policy_table.specs.declared.fault.PolicyFault.{PolicyFault};
 ghost use Rattle.serve_run.specs.Gate.{plain_gate};
 ghost use Rattle.registry_main.specs.Serve.{IsServedFor, service_text};
-ghost use Rattle.registry_main.specs.declared.exit.Exit.TheVariants.{Done, ReadFault, WriteFault, NoMemory, SpawnFault};
+ghost use Rattle.registry_main.specs.declared.exit.Exit.TheVariants.{Done, Usage, PolicyRefused, ReadFault, WriteFault, SpawnFault, FeedRefused};
 
 use crate::exit::Exit;
 use crate::session::ROOMS;
@@ -34,7 +36,9 @@ pub fn answer_serve<R: Threads + Wait + Sync, K: Sink, C: Clock + Sync, G: Gate,
         (plain_gate (G.given gate.old) (G.to_come gate.old) (G.lent gate.old) (G.returned gate.old) (G.faults gate.old))
         (plain_gate (G.given gate.new) (G.to_come gate.new) (G.lent gate.new) (G.returned gate.new) (G.faults gate.new))
         (K.written out.old) result (K.written out.new) }
-    ensures ends { (result ≡ Done) ⊎ (result ≡ ReadFault) ⊎ (result ≡ WriteFault) ⊎ (result ≡ NoMemory) ⊎ (result ≡ SpawnFault) }
+    ensures no_usage { result ≢ Usage }
+    ensures no_refusal { (fault : PolicyFault) → result ≢ PolicyRefused fault }
+    ensures no_feed { (fault : FeedFault) → result ≢ FeedRefused fault }
     ensures read { result ≡ ReadFault → HasRisen (G.faults gate.old) (G.faults gate.new) }
     ensures gate_told { result ≢ ReadFault → result ≢ SpawnFault → G.faults gate.new ≡ G.faults gate.old }
     ensures spawn { result ≡ SpawnFault → HasRisen (P.faults spawner.old) (P.faults spawner.new) }

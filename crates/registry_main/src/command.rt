@@ -1,0 +1,102 @@
+//! What each command does under a policy, but for `serve`.
+ghost use Rattle.std.specs.Prelude.{◌≡◌, ◌≢◌, ℕ, false, true, Some};
+ghost use Rattle.link_face.specs.Faults.{HasRisen};
+ghost use Rattle.mirror_core.specs.declared.fault.FeedFault.{FeedFault};
+ghost use Rattle.mirror_core.specs.declared.fault.FeedFault.TheVariants as feed_faults;
+ghost use Rattle.policy_table.specs.declared.fault.PolicyFault.{PolicyFault};
+ghost use Rattle.command_words.specs.declared.command.Command.TheVariants.{Batch, Publish, Mirror, Load};
+ghost use Rattle.command_words.specs.declared.command.Publication.{Publication};
+ghost use Rattle.command_words.specs.declared.command.Publication.TheVariants.{Statistics};
+ghost use Rattle.registry_main.specs.Batch.{known, IsAnswered};
+ghost use Rattle.registry_main.specs.Load.{IsLoaded};
+ghost use Rattle.registry_main.specs.Mirror.{IsMirrored};
+ghost use Rattle.registry_main.specs.Published.{IsPublished};
+ghost use Rattle.registry_main.specs.Serve.{opens_doors, reads_script};
+ghost use Rattle.registry_main.specs.declared.exit.Exit.TheVariants.{Done, Usage, PolicyRefused, ReadFault, WriteFault, NoMemory, SpawnFault, FeedRefused};
+
+use crate::batch::{Stop, answer_script};
+use crate::exit::Exit;
+use crate::load::answer_load;
+use crate::mirror::answer_mirror;
+use crate::publish::answer_publication;
+use crate::session::Session;
+use command_words::Command;
+use link_face::{Clock, Sink, Source};
+use policy_table::Policy;
+use std::alloc::Global;
+
+/// Answers a script under a policy, on a day of the clock.
+fn answer_batch<T: Source, K: Sink, C: Clock>(
+    alloc: Global,
+    policy: Policy,
+    script: &mut T,
+    out: &mut K,
+    clock: &C,
+) -> Exit
+    ensures answered { (day : ℕ) × C.states clock.now day
+        × IsAnswered policy day (known (T.taken script.old) (T.left script.old) (K.written out.old)) result
+        (known (T.taken script.new) (T.left script.new) (K.written out.new)) }
+    ensures ended { result ≡ Done → T.has_ended script.new }
+    ensures unread { result ≡ NoMemory → (script.new ≡ script.old) × (out.new ≡ out.old) }
+    ensures no_usage { result ≢ Usage }
+    ensures no_spawn { result ≢ SpawnFault }
+    ensures no_refusal { (fault : PolicyFault) → result ≢ PolicyRefused fault }
+    ensures no_feed { (fault : FeedFault) → result ≢ FeedRefused fault }
+    ensures read { result ≡ ReadFault → HasRisen (T.faults script.old) (T.faults script.new) }
+    ensures read_told { result ≢ ReadFault → T.faults script.new ≡ T.faults script.old }
+    ensures write { result ≡ WriteFault → HasRisen (K.faults out.old) (K.faults out.new) }
+    ensures write_told { result ≢ WriteFault → K.faults out.new ≡ K.faults out.old }
+{
+    let Ok(mut session) = Session::new(alloc, policy, clock.day()) else {
+        return Exit::NoMemory;
+    };
+    match answer_script(&mut session, script, out) {
+        Ok(()) => Exit::Done,
+        Err(Stop::Read) => Exit::ReadFault,
+        Err(Stop::Write) => Exit::WriteFault,
+    }
+}
+
+/// Does what a command asks for under a policy, if it is another than `serve`.
+pub fn answer_command<T: Source, K: Sink, C: Clock>(
+    alloc: Global,
+    command: Command,
+    policy: Policy,
+    script: &mut T,
+    out: &mut K,
+    clock: &C,
+) -> Exit
+    requires doorless { opens_doors (Some command) ≡ false }
+    ensures answered { command ≡ Batch → (day : ℕ) × C.states clock.now day
+        × IsAnswered policy day (known (T.taken script.old) (T.left script.old) (K.written out.old)) result
+        (known (T.taken script.new) (T.left script.new) (K.written out.new)) }
+    ensures unread { command ≡ Batch → result ≡ NoMemory → (script.new ≡ script.old) × (out.new ≡ out.old) }
+    ensures published { (what : Publication) → command ≡ Publish what → (day : ℕ) × C.states clock.now day
+        × IsPublished what policy day (known (T.taken script.old) (T.left script.old) (K.written out.old)) result
+        (known (T.taken script.new) (T.left script.new) (K.written out.new)) }
+    ensures unwritten { (what : Publication) → command ≡ Publish what → result ≡ ReadFault → out.new ≡ out.old }
+    ensures whole { command ≡ Publish Statistics → result ≡ NoMemory → out.new ≡ out.old }
+    ensures mirrored { command ≡ Mirror
+        → IsMirrored policy.registry (known (T.taken script.old) (T.left script.old) (K.written out.old)) result
+        (known (T.taken script.new) (T.left script.new) (K.written out.new)) }
+    ensures unfed { command ≡ Mirror → result ≡ ReadFault → out.new ≡ out.old }
+    ensures feed_refused { (fault : FeedFault) → result ≡ FeedRefused fault → (command ≡ Mirror) × (fault ≢ feed_faults.NoMemory) × (out.new ≡ out.old) }
+    ensures loaded { (seed requests : ℕ) → command ≡ Load seed requests → IsLoaded policy seed requests (K.written out.old) result (K.written out.new) }
+    ensures scriptless { reads_script (Some command) ≡ false → script.new ≡ script.old }
+    ensures ended { result ≡ Done → reads_script (Some command) ≡ true → T.has_ended script.new }
+    ensures no_usage { result ≢ Usage }
+    ensures no_refusal { (fault : PolicyFault) → result ≢ PolicyRefused fault }
+    ensures no_spawn { result ≢ SpawnFault }
+    ensures read { result ≡ ReadFault → HasRisen (T.faults script.old) (T.faults script.new) }
+    ensures read_told { result ≢ ReadFault → T.faults script.new ≡ T.faults script.old }
+    ensures write { result ≡ WriteFault → HasRisen (K.faults out.old) (K.faults out.new) }
+    ensures write_told { result ≢ WriteFault → K.faults out.new ≡ K.faults out.old }
+{
+    match command {
+        Command::Batch => answer_batch(alloc, policy, script, out, clock),
+        Command::Serve { .. } => unreachable!(),
+        Command::Publish(what) => answer_publication(alloc, policy, what, script, out, clock),
+        Command::Mirror => answer_mirror(alloc, policy.registry(), script, out),
+        Command::Load { seed, requests } => answer_load(alloc, &policy, seed, requests, out),
+    }
+}
