@@ -67,3 +67,7 @@ pub if_said : (known : Option (List ℕ)) (said other : Result PlainPolicy Polic
     → (said ≡ other → P) → IfSaid known other P
 if_said None said other P h f = tt
 if_said (Some bytes) said other P h f = λ e. f (sym h ∙ e)
+
+pub if_said_maps : (known : Option (List ℕ)) (said : Result PlainPolicy PolicyFault) (P Q : Type 0) → (P → Q) → IfSaid known said P → IfSaid known said Q
+if_said_maps None said P Q f h = tt
+if_said_maps (Some bytes) said P Q f h = λ e. f (h e)

@@ -9,3 +9,4 @@ mod Rows
 pub mod Shown
 pub mod UpToDate
 pub mod Written
+pub mod AtOnce

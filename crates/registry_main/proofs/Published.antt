@@ -5,8 +5,8 @@ use Rattle.std.proofs.lemmas.Bool.{cond-true, cases_Bool}
 use Rattle.std.specs.Io.KnownBytes.{append_known, Appends, Keeps}
 use Rattle.reverse_zone.specs.declared.apex.Apex.{Apex}
 use Rattle.reverse_zone.specs.Zone.{in_pool, zone_text, apexes}
-use Rattle.registry_main.specs.declared.command.Publication.{Publication}
-use Rattle.registry_main.specs.declared.command.Publication.TheVariants.{Zones}
+use Rattle.command_words.specs.declared.command.Publication.{Publication}
+use Rattle.command_words.specs.declared.command.Publication.TheVariants.{Zones}
 use Rattle.registry_main.specs.Session.{PlainSession, after_text}
 use Rattle.registry_main.specs.Batch.{BeginsWith, IsFrontWritten}
 use Rattle.registry_main.specs.Published.{IsAfterScript, session_text, zone_or_none, with_text_after}

@@ -6,7 +6,7 @@ use Rattle.policy_table.specs.declared.fault.PolicyFault.{PolicyFault}
 use Rattle.policy_table.specs.declared.fault.PolicyFault.TheVariants.{TooLong, Text, Missing, Wrong, Bounds}
 use Rattle.policy_table.specs.declared.fault.PolicyFault.TheVariants as faults
 use Rattle.registry_main.specs.declared.exit.Exit.{Exit}
-use Rattle.registry_main.specs.declared.exit.Exit.TheVariants.{Done, Usage, PolicyRefused, ReadFault, WriteFault, NoMemory, FeedRefused}
+use Rattle.registry_main.specs.declared.exit.Exit.TheVariants.{Done, Usage, PolicyRefused, ReadFault, WriteFault, NoMemory, SpawnFault, FeedRefused}
 
 abbrev pub exit_status : Exit → ℕ
 exit_status Done = 0
@@ -15,6 +15,7 @@ exit_status (PolicyRefused fault) = 3
 exit_status ReadFault = 5
 exit_status WriteFault = 6
 exit_status NoMemory = 8
+exit_status SpawnFault = 9
 exit_status (FeedRefused fault) = 10
 
 -- the fault, and the number of the first key that has it
@@ -37,9 +38,10 @@ feed_fault_text feed_faults.NoMemory = codes "NoMemory"
 
 abbrev pub fault_text : Exit → List ℕ
 fault_text Done = []
-fault_text Usage = codes "usage: registry_main batch | stats | zones | mirror"
+fault_text Usage = codes "usage: registry_main batch | serve HTTP LINE WORKERS | stats | zones | mirror | load SEED N"
 fault_text (PolicyRefused fault) = codes "policy: " ++ policy_fault_text fault
 fault_text ReadFault = codes "read fault"
 fault_text WriteFault = codes "write fault"
 fault_text NoMemory = codes "no memory"
+fault_text SpawnFault = codes "spawn fault"
 fault_text (FeedRefused fault) = codes "feed: " ++ feed_fault_text fault

@@ -4,6 +4,7 @@ pub mod Batch
 pub mod Answer
 pub mod Exit
 pub mod PolicyBytes
-pub mod Command
 pub mod Published
 pub mod Mirror
+pub mod Load
+pub mod Serve

@@ -5,8 +5,8 @@ use Rattle.reg_entry.specs.Policy.{PlainPolicy}
 use Rattle.delegated_ext.specs.StatisticsText.{statistics_text}
 use Rattle.reverse_zone.specs.declared.apex.Apex.{Apex}
 use Rattle.reverse_zone.specs.Zone.{in_pool, zone_text, zones_text}
-use Rattle.registry_main.specs.declared.command.Publication.{Publication}
-use Rattle.registry_main.specs.declared.command.Publication.TheVariants.{Statistics, Zones}
+use Rattle.command_words.specs.declared.command.Publication.{Publication}
+use Rattle.command_words.specs.declared.command.Publication.TheVariants.{Statistics, Zones}
 use Rattle.registry_main.specs.declared.exit.Exit.{Exit}
 use Rattle.registry_main.specs.declared.exit.Exit.TheVariants.{Done}
 use Rattle.registry_main.specs.Session.{PlainSession, new_session, after_text}

@@ -15,12 +15,14 @@ pub enum Exit {
     Usage,
     /// The policy's bytes are no policy.
     PolicyRefused(PolicyFault),
-    /// The policy or the script couldn't be read on.
+    /// The policy or the script couldn't be read on, or a door couldn't be served on.
     ReadFault,
     /// A reply, or what is published, couldn't be written.
     WriteFault,
     /// There was no memory.
     NoMemory,
+    /// Some worker couldn't be set to work; the others have served to their end.
+    SpawnFault,
     /// The script is no feed that leaves a mirror at rest.
     FeedRefused(FeedFault),
 }
@@ -37,6 +39,7 @@ impl Exit {
             Exit::ReadFault => 5,
             Exit::WriteFault => 6,
             Exit::NoMemory => 8,
+            Exit::SpawnFault => 9,
             Exit::FeedRefused(_) => 10,
         }
     }
@@ -52,7 +55,9 @@ impl fmt::Display for Exit {
     fn fmt<W: fmt::Write>(&self, f: &mut fmt::Formatter<W>) -> fmt::Result {
         match self {
             Exit::Done => Ok(()),
-            Exit::Usage => f.write_str("usage: registry_main batch | stats | zones | mirror"),
+            Exit::Usage => f.write_str(
+                "usage: registry_main batch | serve HTTP LINE WORKERS | stats | zones | mirror | load SEED N",
+            ),
             Exit::PolicyRefused(PolicyFault::TooLong) => f.write_str("policy: too long"),
             Exit::PolicyRefused(PolicyFault::Text) => f.write_str("policy: text"),
             Exit::PolicyRefused(PolicyFault::Missing(key)) => write!(f, "policy: missing {key}"),
@@ -62,6 +67,7 @@ impl fmt::Display for Exit {
             Exit::ReadFault => f.write_str("read fault"),
             Exit::WriteFault => f.write_str("write fault"),
             Exit::NoMemory => f.write_str("no memory"),
+            Exit::SpawnFault => f.write_str("spawn fault"),
             Exit::FeedRefused(FeedFault::Spelling { .. }) => f.write_str("feed: Spelling"),
             Exit::FeedRefused(FeedFault::Gap { .. }) => f.write_str("feed: Gap"),
             Exit::FeedRefused(FeedFault::ForeignSource { .. }) => f.write_str(

@@ -1,5 +1,6 @@
-//! The register's program: `registry_main batch` answers a script; `stats` and `zones` write the statistics file and the
-//! reverse zones of the register that a script leaves; `mirror` writes the objects of a mirror that is fed the script.
+//! The register's program: `registry_main batch` answers a script; `serve` serves HTTP and the change stream from a register
+//! that begins empty; `stats` and `zones` write the statistics file and the reverse zones of the register that a script leaves;
+//! `mirror` writes the objects of a mirror that is fed the script; `load` writes the sums of a load.
 #![tactic(auto)]
 
 mod answer;
@@ -11,6 +12,7 @@ mod due_lines;
 mod exit;
 mod laws;
 mod line_buffer;
+mod load;
 mod mirror;
 mod policy_bytes;
 mod policy_file;
@@ -18,12 +20,19 @@ mod publish;
 mod run;
 #[cfg(test)]
 mod samples;
+mod serve;
 mod session;
 
+use command_words::Command;
+use door_face::{SocketGate, ThreadSpawner};
 use exit::Exit;
 use link_face::{InSource, OutSink, SystemDay};
 use policy_file::PolicyFile;
+use std::env::VarError;
+use std::io::IsTerminal;
 use std::process::ExitCode;
+use std::sync::Wait;
+use std::thread::Threads;
 use std::{env, io};
 
 /// The words behind the program's name, or how the program ends where they can't be had.
@@ -36,20 +45,54 @@ fn words_of(rt: &HostRuntime) -> Result<Vec<String>, Exit> {
     }
 }
 
-fn run_program(rt: &HostRuntime) -> Exit {
+/// The gate over sockets, at the address that the environment names, or else at this machine's own.
+fn gate_of(rt: &HostRuntime) -> SocketGate<&HostRuntime> {
+    match env::var(rt, "REGISTER_LISTEN") {
+        Ok(address) => SocketGate::listening_on(rt, &address),
+        Err(VarError::NotPresent) => SocketGate::new(rt),
+        // What is no text is no address.
+        Err(_) => SocketGate::listening_on(rt, ""),
+    }
+}
+
+/// Tells a person at a terminal which doors are to be served, since a service writes nothing until it ends.
+fn tell_doors(rt: &HostRuntime, words: &[String]) {
+    if let Ok(Some(Command::Serve { http, line, .. })) = Command::read(rt.alloc(), words) {
+        if rt.stderr().is_terminal() {
+            let _ = eprintln!(rt;
+                "serving HTTP at port {http} and lines at port {line}, until Ctrl-C; nothing is kept"
+            );
+        }
+    }
+}
+
+/// Runs the program over what it is given from outside, with threads by a handle of their own.
+fn run_program<R: AllocGlobal + Threads + Wait + Sync>(rt: &HostRuntime, threads: &R) -> Exit {
     let words = match words_of(rt) {
         Ok(words) => words,
         Err(exit) => return exit,
     };
+    tell_doors(rt, &words);
     let mut policy = InSource::new(PolicyFile::open(rt, "policy.toml"));
     let mut script = InSource::new(rt.stdin());
     let mut out = OutSink::new(rt.stdout());
-    let mut clock = SystemDay::new(rt);
-    run::run(rt, &words, &mut policy, &mut script, &mut out, &mut clock)
+    let clock = SystemDay::new(rt);
+    let mut gate = gate_of(rt);
+    let mut spawner = ThreadSpawner::new();
+    run::run(
+        threads,
+        &words,
+        &mut policy,
+        &mut script,
+        &mut out,
+        &clock,
+        &mut gate,
+        &mut spawner,
+    )
 }
 
 fn main(rt: HostRuntime) -> ExitCode {
-    let exit = run_program(&rt);
+    let exit = run_program(&rt, &rt);
     if exit != Exit::Done {
         let _ = eprintln!(rt; "{exit}");
     }

@@ -8,7 +8,7 @@ ghost use Rattle.mirror_core.specs.declared.fault.FeedFault.TheVariants as fault
 ghost use Rattle.mirror_core.specs.Objects.{objects_text};
 ghost use Rattle.registry_main.specs.Batch.{BeginsWith, IsFrontWritten, known};
 ghost use Rattle.registry_main.specs.Mirror.{mirror_of, of_fault, IsFedAll, EndsWith, with_objects, IsMirrored};
-ghost use Rattle.registry_main.specs.declared.exit.Exit.TheVariants.{Done, Usage, PolicyRefused, FeedRefused, ReadFault, WriteFault, NoMemory};
+ghost use Rattle.registry_main.specs.declared.exit.Exit.TheVariants.{Done, Usage, PolicyRefused, FeedRefused, ReadFault, WriteFault, NoMemory, SpawnFault};
 ghost use Rattle.registry_main.specs.declared.mirror.Unmirrored.TheVariants.{Read, Write, Memory, Refused};
 
 use crate::exit::Exit;
@@ -163,6 +163,7 @@ pub fn answer_mirror<T: Source, K: Sink>(
     ensures told { result ≢ FeedRefused faults.NoMemory }
     ensures unwritten { result ≡ ReadFault → out.new ≡ out.old }
     ensures no_usage { result ≢ Usage }
+    ensures no_spawn { result ≢ SpawnFault }
     ensures no_refusal { (fault : PolicyFault) → result ≢ PolicyRefused fault }
     ensures read { result ≡ ReadFault → HasRisen (T.faults script.old) (T.faults script.new) }
     ensures read_told { result ≢ ReadFault → T.faults script.new ≡ T.faults script.old }

@@ -8,14 +8,14 @@ ghost use Rattle.registry_main.specs.Session.{new_session};
 ghost use Rattle.registry_main.specs.Batch.{BeginsWith, IsFrontWritten, known};
 ghost use Rattle.reverse_zone.specs.Apex.{IsApex};
 ghost use Rattle.registry_main.specs.Published.{session_text, zone_or_none, with_text_after, IsPublished};
-ghost use Rattle.registry_main.specs.declared.command.Publication.TheVariants.{Statistics as TheStatistics, Zones as TheZones};
-ghost use Rattle.registry_main.specs.declared.exit.Exit.TheVariants.{Done, Usage, PolicyRefused, ReadFault, WriteFault, NoMemory, FeedRefused};
+ghost use Rattle.command_words.specs.declared.command.Publication.TheVariants.{Statistics as TheStatistics, Zones as TheZones};
+ghost use Rattle.registry_main.specs.declared.exit.Exit.TheVariants.{Done, Usage, PolicyRefused, ReadFault, WriteFault, NoMemory, SpawnFault, FeedRefused};
 ghost use Rattle.registry_main.specs.declared.publish.Unpublished.TheVariants.{Read, Write, Memory};
 
 use crate::apply::apply_script;
-use crate::command::Publication;
 use crate::exit::Exit;
 use crate::session::Session;
+use command_words::Publication;
 use link_face::{Clock, Failed, Sink, Source};
 use policy_table::Policy;
 use reverse_zone::{Apex, apexes};
@@ -194,6 +194,7 @@ pub fn answer_publication<T: Source, K: Sink, C: Clock>(
     ensures unwritten { result ≡ ReadFault → out.new ≡ out.old }
     ensures whole { what ≡ TheStatistics → result ≡ NoMemory → out.new ≡ out.old }
     ensures no_usage { result ≢ Usage }
+    ensures no_spawn { result ≢ SpawnFault }
     ensures no_refusal { (fault : PolicyFault) → result ≢ PolicyRefused fault }
     ensures no_feed { (fault : FeedFault) → result ≢ FeedRefused fault }
     ensures read { result ≡ ReadFault → HasRisen (T.faults script.old) (T.faults script.new) }

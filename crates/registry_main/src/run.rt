@@ -1,5 +1,5 @@
 //! The program, over whatever it reads from and writes to.
-ghost use Rattle.std.specs.Prelude.{◌≡◌, ◌≢◌, ◌≤◌, ◌<◌, ◌+◌, ◌↔◌, ◌⊎◌, ◌++◌, ℕ, true, List, None, Some, Ok, Err, length, map};
+ghost use Rattle.std.specs.Prelude.{◌≡◌, ◌≢◌, ◌≤◌, ◌<◌, ◌+◌, ◌↔◌, ◌⊎◌, ◌++◌, ℕ, true, false, List, None, Some, Ok, Err, length, map};
 ghost use Rattle.std.specs.String.{string_bytes};
 ghost use Rattle.num_range.specs.Range.{PlainRange, IsRange};
 ghost use Rattle.num_range.specs.declared.space.Space.{Space};
@@ -27,77 +27,64 @@ ghost use Rattle.mirror_core.specs.Feed.{fed};
 ghost use Rattle.mirror_laws.specs.Feed.{IsFeedOf, last_serial};
 ghost use Rattle.mirror_laws.specs.Follows.{Follows};
 ghost use Rattle.mirror_laws.specs.Forms.{ArePublished};
+ghost use Rattle.load_gen.specs.Load.{loaded};
+ghost use Rattle.serve_run.specs.Gate.{plain_gate};
 ghost use Rattle.registry_main.specs.Session.{rooms, entries_after, register_over};
 ghost use Rattle.registry_main.specs.Batch.{known, IsAnswered};
-ghost use Rattle.registry_main.specs.Command.{command_of};
+ghost use Rattle.command_words.specs.Command.{command_of};
 ghost use Rattle.registry_main.specs.PolicyBytes.{policy_front, IsSaid, IfSaid};
 ghost use Rattle.registry_main.specs.Published.{IsPublished};
 ghost use Rattle.registry_main.specs.Mirror.{mirror_of, IsMirrored};
-ghost use Rattle.registry_main.specs.declared.command.Command.TheVariants.{Batch, Publish, Mirror};
-ghost use Rattle.registry_main.specs.declared.command.Publication.{Publication};
-ghost use Rattle.registry_main.specs.declared.command.Publication.TheVariants.{Statistics};
-ghost use Rattle.registry_main.specs.declared.exit.Exit.TheVariants.{Done, Usage, PolicyRefused, ReadFault, WriteFault, NoMemory, FeedRefused};
+ghost use Rattle.registry_main.specs.Load.{IsLoaded};
+ghost use Rattle.registry_main.specs.Serve.{IsServedFor, opens_doors, reads_script};
+ghost use Rattle.command_words.specs.declared.command.Command.TheVariants.{Batch, Serve, Publish, Mirror, Load};
+ghost use Rattle.command_words.specs.declared.command.Publication.{Publication};
+ghost use Rattle.command_words.specs.declared.command.Publication.TheVariants.{Statistics};
+ghost use Rattle.registry_main.specs.declared.exit.Exit.TheVariants.{Done, Usage, PolicyRefused, ReadFault, WriteFault, NoMemory, SpawnFault, FeedRefused};
 
-use crate::batch::{Stop, answer_script};
-use crate::command::Command;
+use crate::command::do_command;
 use crate::exit::Exit;
 use crate::laws::{
     accepted_entries_are_legal, answers_are_least, mirrors_follow_registers, scripts_conserve,
     statistics_conserve, zones_are_delegated,
 };
-use crate::mirror::answer_mirror;
-use crate::policy_bytes::{NoPolicy, read_policy};
-use crate::publish::answer_publication;
-use crate::session::Session;
+use crate::serve::do_serve;
+use command_words::Command;
+use command_words::laws::commands_have_one_list_of_words;
+use door_face::{Gate, Spawner};
 use link_face::{Clock, Sink, Source};
-use policy_table::Policy;
-use std::alloc::Global;
+use load_run::laws::loads_conserve;
+use serve_run::Doors;
+use std::sync::Wait;
+use std::thread::Threads;
 
-/// Answers a script under a policy, on a day of the clock.
-fn answer_batch<T: Source, K: Sink, C: Clock>(
-    alloc: Global,
-    policy: Policy,
-    script: &mut T,
-    out: &mut K,
-    clock: &C,
-) -> Exit
-    ensures answered { (day : ℕ) × C.states clock.now day
-        × IsAnswered policy day (known (T.taken script.old) (T.left script.old) (K.written out.old)) result
-        (known (T.taken script.new) (T.left script.new) (K.written out.new)) }
-    ensures ended { result ≡ Done → T.has_ended script.new }
-    ensures unread { result ≡ NoMemory → (script.new ≡ script.old) × (out.new ≡ out.old) }
-    ensures no_usage { result ≢ Usage }
-    ensures no_refusal { (fault : PolicyFault) → result ≢ PolicyRefused fault }
-    ensures no_feed { (fault : FeedFault) → result ≢ FeedRefused fault }
-    ensures read { result ≡ ReadFault → HasRisen (T.faults script.old) (T.faults script.new) }
-    ensures read_told { result ≢ ReadFault → T.faults script.new ≡ T.faults script.old }
-    ensures write { result ≡ WriteFault → HasRisen (K.faults out.old) (K.faults out.new) }
-    ensures write_told { result ≢ WriteFault → K.faults out.new ≡ K.faults out.old }
-{
-    let Ok(mut session) = Session::new(alloc, policy, clock.day()) else {
-        return Exit::NoMemory;
-    };
-    match answer_script(&mut session, script, out) {
-        Ok(()) => Exit::Done,
-        Err(Stop::Read) => Exit::ReadFault,
-        Err(Stop::Write) => Exit::WriteFault,
-    }
-}
-
-/// Does what the words say, by the rules of the policy: `batch` answers the script line by line; `stats` and `zones` write
-/// the statistics file and the reverse zones of the register that the script leaves; `mirror` feeds the script to a mirror, and
-/// writes its objects.
-pub fn run<R: AllocGlobal, S: Source, T: Source, K: Sink, C: Clock>(
+/// Does what the words say, by the rules of the policy: `batch` answers the script line by line; `serve` serves both doors,
+/// and writes how many connections there were; `stats` and `zones` write the statistics file and the reverse zones of the
+/// register that the script leaves; `mirror` feeds the script to a mirror, and writes its objects; `load` writes the summary of
+/// a load.
+pub fn run<
+    R: AllocGlobal + Threads + Wait + Sync,
+    S: Source,
+    T: Source,
+    K: Sink,
+    C: Clock + Sync,
+    G: Gate,
+    P: Spawner,
+>(
     rt: &R,
     words: &[String],
     policy: &mut S,
     script: &mut T,
     out: &mut K,
-    clock: &mut C,
+    clock: &C,
+    gate: &mut G,
+    spawner: &mut P,
 ) -> Exit
-    // The words are refused exactly where they are no command, and then nothing is read and nothing written.
-    ensures usage { (result ≡ Usage) ↔ (command_of (map string_bytes words.now) ≡ None) }
-    ensures untouched { result ≡ Usage → (policy.new ≡ policy.old) × (script.new ≡ script.old) × (out.new ≡ out.old) }
+    // The words are refused where they are no command and nowhere else, unless there is no memory to read them. Then nothing is
+    // read and nothing written.
+    ensures usage { result ≡ Usage → command_of (map string_bytes words.now) ≡ None }
+    ensures untouched { command_of (map string_bytes words.now) ≡ None → ((result ≡ Usage) ⊎ (result ≡ NoMemory))
+        × (policy.new ≡ policy.old) × (script.new ≡ script.old) × (out.new ≡ out.old) }
 
     // The policy is refused for the fault that its bytes have, and then nothing is read of the script and nothing
     // written. Where they have one no script is answered. No more is read of them than decides that.
@@ -112,7 +99,7 @@ pub fn run<R: AllocGlobal, S: Source, T: Source, K: Sink, C: Clock>(
     // `batch`: where the policy is good, what is written are the replies of the register that the lines of the script build
     // under it, on a day of the clock. The replies to the lines that have come are written before more is read.
     ensures answered { command_of (map string_bytes words.now) ≡ Some Batch → ((result ≢ Done) × (script.new ≡ script.old) × (out.new ≡ out.old))
-        ⊎ ((p : PlainPolicy) × IsPolicy p × IsSaid (S.left policy.old) (Ok p) × (day : ℕ) × C.states clock.old day
+        ⊎ ((p : PlainPolicy) × IsPolicy p × IsSaid (S.left policy.old) (Ok p) × (day : ℕ) × C.states clock.now day
         × IsAnswered p day (known (T.taken script.old) (T.left script.old) (K.written out.old)) result
         (known (T.taken script.new) (T.left script.new) (K.written out.new))) }
 
@@ -120,7 +107,7 @@ pub fn run<R: AllocGlobal, S: Source, T: Source, K: Sink, C: Clock>(
     // Nothing is written before the script has ended, and of the statistics nothing before all of the file is there.
     ensures published { (what : Publication) → command_of (map string_bytes words.now) ≡ Some (Publish what)
         → ((result ≢ Done) × (out.new ≡ out.old))
-        ⊎ ((p : PlainPolicy) × IsPolicy p × IsSaid (S.left policy.old) (Ok p) × (day : ℕ) × C.states clock.old day
+        ⊎ ((p : PlainPolicy) × IsPolicy p × IsSaid (S.left policy.old) (Ok p) × (day : ℕ) × C.states clock.now day
         × IsPublished what p day (known (T.taken script.old) (T.left script.old) (K.written out.old)) result
         (known (T.taken script.new) (T.left script.new) (K.written out.new))) }
     ensures unwritten { (what : Publication) → command_of (map string_bytes words.now) ≡ Some (Publish what) → result ≡ ReadFault → out.new ≡ out.old }
@@ -137,17 +124,38 @@ pub fn run<R: AllocGlobal, S: Source, T: Source, K: Sink, C: Clock>(
     ensures feed_refused { (fault : FeedFault) → result ≡ FeedRefused fault
         → (command_of (map string_bytes words.now) ≡ Some Mirror) × (fault ≢ feed_faults.NoMemory) × (out.new ≡ out.old) }
 
-    // Done comes at the script's end alone.
-    ensures ended { result ≡ Done → T.has_ended script.new }
+    // `serve`: what is written is how many connections there were, once every way of both doors has ended; each was served from
+    // an empty register on, and went back to the gate.
+    ensures served { (http line workers : ℕ) → command_of (map string_bytes words.now) ≡ Some (Serve http line workers)
+        → ((result ≢ Done) × (out.new ≡ out.old))
+        ⊎ ((p : PlainPolicy) × IsPolicy p × IsSaid (S.left policy.old) (Ok p)
+        × IsServedFor p (C.states clock.now) http line workers
+        (plain_gate (G.given gate.old) (G.to_come gate.old) (G.lent gate.old) (G.returned gate.old) (G.faults gate.old))
+        (plain_gate (G.given gate.new) (G.to_come gate.new) (G.lent gate.new) (G.returned gate.new) (G.faults gate.new))
+        (K.written out.old) result (K.written out.new)) }
+    ensures doorless { opens_doors (command_of (map string_bytes words.now)) ≡ false → (gate.new ≡ gate.old) × (spawner.new ≡ spawner.old) }
+
+    // `load`: what is written is the summary of the load, all of it at once.
+    ensures loaded { (seed requests : ℕ) → command_of (map string_bytes words.now) ≡ Some (Load seed requests)
+        → ((result ≢ Done) × (out.new ≡ out.old))
+        ⊎ ((p : PlainPolicy) × IsPolicy p × IsSaid (S.left policy.old) (Ok p)
+        × IsLoaded p seed requests (K.written out.old) result (K.written out.new)) }
+    ensures scriptless { reads_script (command_of (map string_bytes words.now)) ≡ false → script.new ≡ script.old }
+
+    // Done comes at the script's end alone, where the command has one.
+    ensures ended { result ≡ Done → reads_script (command_of (map string_bytes words.now)) ≡ true → T.has_ended script.new }
 
     // `batch` tells want of memory before anything is read of the script and anything is written.
     ensures unread { command_of (map string_bytes words.now) ≡ Some Batch → result ≡ NoMemory → (script.new ≡ script.old) × (out.new ≡ out.old) }
 
     // A fault is answered only where the outside failed in this run, and where it did the run ends with that fault.
-    ensures read_fault { result ≡ ReadFault →
-        HasRisen (S.faults policy.old) (S.faults policy.new) ⊎ HasRisen (T.faults script.old) (T.faults script.new) }
+    ensures read_fault { result ≡ ReadFault → HasRisen (S.faults policy.old) (S.faults policy.new)
+        ⊎ HasRisen (T.faults script.old) (T.faults script.new) ⊎ HasRisen (G.faults gate.old) (G.faults gate.new) }
     ensures read_told { result ≢ ReadFault →
         (S.faults policy.new ≡ S.faults policy.old) × (T.faults script.new ≡ T.faults script.old) }
+    ensures gate_told { result ≢ ReadFault → result ≢ SpawnFault → G.faults gate.new ≡ G.faults gate.old }
+    ensures spawn_fault { result ≡ SpawnFault → HasRisen (P.faults spawner.old) (P.faults spawner.new) }
+    ensures spawn_told { result ≢ SpawnFault → P.faults spawner.new ≡ P.faults spawner.old }
     ensures write_fault { result ≡ WriteFault → HasRisen (K.faults out.old) (K.faults out.new) }
     ensures write_told { result ≢ WriteFault → K.faults out.new ≡ K.faults out.old }
 
@@ -186,6 +194,10 @@ pub fn run<R: AllocGlobal, S: Source, T: Source, K: Sink, C: Clock>(
         → last_serial 0 texts.texts ≡ length (operations_of rooms es)
         → (fed (mirror_of registry) feed).objects ≡ map (mirrored (capitals registry)) (objects_of (register_after rooms es)) }
 
+    // A load's register is that of legal entries too, and loses none of their numbers.
+    ensures load_conserved { (p : PlainPolicy) (who : List ℕ) (seed requests : ℕ) → IsPolicy p
+        → (es : List PlainEntry) × IsConservedBy (loaded rooms p who seed requests).register es }
+
     // A delegation takes the least free block, aligned and all of it available, and an overlap is told by the least
     // number that is taken.
     ensures least { (es : List PlainEntry) (p : PlainPolicy) (day : ℕ) (lines : List (List ℕ)) (space : Space) (size : ℕ)
@@ -204,20 +216,29 @@ pub fn run<R: AllocGlobal, S: Source, T: Source, K: Sink, C: Clock>(
     zones_are_delegated();
     mirrors_follow_registers();
     answers_are_least();
-    let Some(command) = Command::read(words) else {
-        return Exit::Usage;
-    };
-    match read_policy(rt.alloc(), policy) {
-        Ok(policy) => match command {
-            Command::Batch => answer_batch(rt.alloc(), policy, script, out, clock),
-            Command::Publish(what) => {
-                answer_publication(rt.alloc(), policy, what, script, out, clock)
-            }
-            Command::Mirror => answer_mirror(rt.alloc(), policy.registry(), script, out),
-        },
-        Err(NoPolicy::Read) => Exit::ReadFault,
-        Err(NoPolicy::Refused(fault)) => Exit::PolicyRefused(fault),
-        Err(NoPolicy::Memory) => Exit::NoMemory,
+    loads_conserve();
+    // And that the numbers of a command are within their bounds.
+    commands_have_one_list_of_words();
+    match Command::read(rt.alloc(), words) {
+        Ok(
+            Some(
+                Command::Serve {
+                    http,
+                    line,
+                    workers,
+                },
+            ),
+        ) => {
+            let doors = Doors {
+                http,
+                line,
+                workers,
+            };
+            do_serve(rt, doors, policy, out, clock, gate, spawner)
+        }
+        Ok(Some(command)) => do_command(rt.alloc(), command, policy, script, out, clock),
+        Ok(None) => Exit::Usage,
+        Err(_) => Exit::NoMemory,
     }
 }
 

@@ -9,7 +9,7 @@ ghost use Rattle.registry_main.specs.Answer.{answer_text, HasDates};
 ghost use Rattle.registry_main.specs.declared.answer.Answer.TheVariants.{Shown};
 ghost use Rattle.registry_main.specs.Session.{new_session, decided, after_reply, shown_text, step_of, answered};
 ghost use Rattle.registry_main.specs.Published.{session_text};
-ghost use Rattle.registry_main.specs.declared.command.Publication.TheVariants.{Statistics};
+ghost use Rattle.command_words.specs.declared.command.Publication.TheVariants.{Statistics};
 ghost use Rattle.reverse_zone.specs.Apex.{IsApex};
 ghost use Rattle.reverse_zone.specs.Zone.{in_pool, zone_text};
 
@@ -27,8 +27,8 @@ use reverse_zone::{Apex, in_pool, write_zone};
 use std::alloc::{AllocError, Global};
 use std::marker::Model;
 
-/// How much a script's register may keep.
-const ROOMS: Rooms = Rooms {
+/// How much the register of a script or of a load may keep.
+pub(crate) const ROOMS: Rooms = Rooms {
     pieces: 262_144,
     holders: 65_536,
     subs: 262_144,

@@ -212,7 +212,7 @@ all_were_served false old new links well end = end.1
 
 one_served : (serves : PlainPass → LinkRecord → PlainPass → Type 0) (first : PlainPass) (door : Door) (port : ℕ) (way : PlainWay) (end : PlainEnd)
     → IsNewWay door port way → (left : LeavesWay serves first way end) → end.has_failed ≡ false
-    → IsServedWay serves first door port way.links_left left.1.along.0 (record_of end) left.0
+    → IsServedWay serves first door port left.1.along.0 (record_of end) left.0
 one_served serves first door port way end fresh left well =
     let it = left.1.along.1 in
     record {
@@ -221,15 +221,19 @@ one_served serves first door port way end fresh left well =
       door_is = it.place.0 ∙ fresh.door_is;
       port_is = it.place.1 ∙ fresh.port_is;
       links_are = links_told way.returned left.1.along.0 end.way.returned fresh.returned it.returned;
-      all = all_were_served end.has_failed way end.way left.1.along.0 well it.end;
     }
 
 -- ---- the ways of a door
 
+-- where a way told how many links it had, they are as many as these
+abbrev AreAsMany : Option ℕ → List LinkRecord → Type 0
+AreAsMany told links = IfSome told (λ n. n ≡ length links)
+
 pub record AreWaysServed (serves : PlainPass → LinkRecord → PlainPass → Type 0) (first : PlainPass) (door : Door) (port : ℕ)
     (ways : List PlainWay) (ends : List PlainEnd) : Type 0 where
   pub links : List (List LinkRecord)
-  pub each : AreServedWays serves first door port (map (λ way. way.links_left) ways) links (map record_of ends)
+  pub each : AreServedWays serves first door port links (map record_of ends)
+  pub as_many : AllZip AreAsMany (map (λ way. way.links_left) ways) links
   pub counts : min (sum_by (λ end. end.connections) ends) most ≡ min (sum_by (λ ls. length ls) links) most
   pub number : length links ≡ length ways
   pub ends_are : length ends ≡ length ways
@@ -243,7 +247,7 @@ ways_served : (serves : PlainPass → LinkRecord → PlainPass → Type 0) (firs
     → list_any (λ (end : PlainEnd). end.has_failed) ends ≡ false → AreWaysServed serves first door port ways ends
 ways_served serves first door port [] (end ∷ ends) fresh zip well = elim zip [ ]
 ways_served serves first door port (way ∷ ways) [] fresh zip well = elim zip [ ]
-ways_served serves first door port [] [] fresh zip well = record { links = []; each = tt; counts = refl; number = refl; ends_are = refl }
+ways_served serves first door port [] [] fresh zip well = record { links = []; each = tt; as_many = tt; counts = refl; number = refl; ends_are = refl }
 ways_served serves first door port (way ∷ ways) (end ∷ ends) fresh zip well =
     let wells = none_of_either end.has_failed (list_any (λ (e : PlainEnd). e.has_failed) ends) well in
     let it = ways_served serves first door port ways ends (All-tail (IsNewWay door port) way ways fresh) zip.1 wells.1 in
@@ -252,6 +256,7 @@ ways_served serves first door port (way ∷ ways) (end ∷ ends) fresh zip well 
     record {
       links = left.1.along.0 ∷ it.links;
       each = ((left.0, one_served serves first door port way end new left wells.0), it.each);
+      as_many = (all_were_served end.has_failed way end.way left.1.along.0 wells.0 left.1.along.1.end, it.as_many);
       counts =
           let mine = sum_by-cons (λ (e : PlainEnd). e.connections) end ends in
           let theirs = sum_by-cons (λ (ls : List LinkRecord). length ls) left.1.along.0 it.links in
@@ -269,29 +274,25 @@ head_is x y xs ys is = grind (arith, is)
 tail_is : (x y : Option ℕ) (xs ys : List (Option ℕ)) → (x ∷ xs) ≡ (y ∷ ys) → xs ≡ ys
 tail_is x y xs ys is = grind (arith, is)
 
-all_numbers : (serves : PlainPass → LinkRecord → PlainPass → Type 0) (first : PlainPass) (door : Door) (port : ℕ) (numbers : List (Option ℕ))
-    (links : List (List LinkRecord)) (ways : List WayRecord) (front : List ℕ) → AreServedWays serves first door port numbers links ways
+all_numbers : (numbers : List (Option ℕ)) (links : List (List LinkRecord)) (front : List ℕ) → AllZip AreAsMany numbers links
     → numbers ≡ map (λ n. Some n) front → front ≡ map (λ ls. length ls) links
-all_numbers serves first door port [] [] (way ∷ ways) front each is = elim each [ ]
-all_numbers serves first door port [] (ls ∷ links) ways front each is = elim each [ ]
-all_numbers serves first door port (number ∷ numbers) [] ways front each is = elim each [ ]
-all_numbers serves first door port (number ∷ numbers) (ls ∷ links) [] front each is = elim each [ ]
-all_numbers serves first door port [] [] [] [] each is = refl
-all_numbers serves first door port [] [] [] (n ∷ front) each is = grind (arith, is)
-all_numbers serves first door port (number ∷ numbers) (ls ∷ links) (way ∷ ways) [] each is = grind (arith, is)
-all_numbers serves first door port (number ∷ numbers) (ls ∷ links) (way ∷ ways) (n ∷ front) each is =
-    let here : n ≡ length ls = subst (λ told. IfSome told (λ k. k ≡ length ls)) (head_is number (Some n) numbers (map (λ k. Some k) front) is) each.0.1.all in
+all_numbers [] (ls ∷ links) front each is = elim each [ ]
+all_numbers (number ∷ numbers) [] front each is = elim each [ ]
+all_numbers [] [] [] each is = refl
+all_numbers [] [] (n ∷ front) each is = grind (arith, is)
+all_numbers (number ∷ numbers) (ls ∷ links) [] each is = grind (arith, is)
+all_numbers (number ∷ numbers) (ls ∷ links) (n ∷ front) each is =
+    let here : n ≡ length ls = subst (λ told. AreAsMany told ls) (head_is number (Some n) numbers (map (λ k. Some k) front) is) each.0 in
     ap (λ k. k ∷ front) here ∙ ap (λ ks. length ls ∷ ks)
-    (all_numbers serves first door port numbers links ways front each.1 (tail_is number (Some n) numbers (map (λ k. Some k) front) is))
+    (all_numbers numbers links front each.1 (tail_is number (Some n) numbers (map (λ k. Some k) front) is))
 
-all_came : (serves : PlainPass → LinkRecord → PlainPass → Type 0) (first : PlainPass) (door : Door) (port : ℕ) (ways : List PlainWay)
-    (links : List (List LinkRecord)) (records : List WayRecord) (told mid after : Option (List ℕ))
-    → AreServedWays serves first door port (map (λ way. way.links_left) ways) links records
+all_came : (ways : List PlainWay) (links : List (List LinkRecord)) (told mid after : Option (List ℕ))
+    → AllZip AreAsMany (map (λ way. way.links_left) ways) links
     → IfSome told (IsFrontGiven ways mid) → after ≡ mid → IfSome told (AreAllOf links after)
-all_came serves first door port ways links records None mid after each front same = tt
-all_came serves first door port ways links records (Some numbers) mid after each front same = (
+all_came ways links None mid after as_many front same = tt
+all_came ways links (Some numbers) mid after as_many front same = (
   front.rest,
-  front.numbers_are ∙ ap (λ ns. ns ++ front.rest) (all_numbers serves first door port (map (λ way. way.links_left) ways) links records front.front each front.front_is),
+  front.numbers_are ∙ ap (λ ns. ns ++ front.rest) (all_numbers (map (λ way. way.links_left) ways) links front.front as_many front.front_is),
   same ∙ front.rest_is,
 )
 
@@ -363,19 +364,17 @@ both_served book rooms policy is_day http line workers old mid late new at_http 
       line_links = l.links;
       line_ways = map record_of ls;
       at_http = record {
-        numbers = map (λ way. way.links_left) at_http;
         each = h.each;
         number = h.number ∙ http_many;
         given = (taken.full Http).0 ∙ (gave_line.other Http http_other).1 ∙ gave_http.given ∙ ap (λ n. old.given Http + n) http_many;
-        all = all_came _ first Http http at_http h.links (map record_of hs) (old.to_come Http) (mid.to_come Http) (new.to_come Http) h.each gave_http.to_come
+        all = all_came at_http h.links (old.to_come Http) (mid.to_come Http) (new.to_come Http) h.as_many gave_http.to_come
             ((taken.full Http).1 ∙ (gave_line.other Http http_other).0);
       };
       at_line = record {
-        numbers = map (λ way. way.links_left) at_line;
         each = l.each;
         number = l.number ∙ line_many;
         given = (taken.full Line).0 ∙ gave_line.given ∙ ap (λ n. n + length at_line) (gave_http.other Line line_other).1 ∙ ap (λ n. old.given Line + n) line_many;
-        all = all_came _ first Line line at_line l.links (map record_of ls) (old.to_come Line) (late.to_come Line) (new.to_come Line) l.each
+        all = all_came at_line l.links (old.to_come Line) (late.to_come Line) (new.to_come Line) l.as_many
             (subst (λ told. IfSome told (IsFrontGiven at_line (late.to_come Line))) (gave_http.other Line line_other).0 gave_line.to_come)
             (taken.full Line).1;
       };

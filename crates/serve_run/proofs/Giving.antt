@@ -11,7 +11,7 @@ none_ahead : (told : Option (List ℕ)) → IfSome told (IsFrontGiven [] told)
 none_ahead None = tt
 none_ahead (Some ns) = record { front = []; rest = ns; numbers_are = refl; front_is = refl; rest_is = refl }
 
-none_lent : (told : Option ℕ) → told ≡ more_by 0 told
+pub none_lent : (told : Option ℕ) → told ≡ more_by 0 told
 none_lent None = refl
 none_lent (Some n) = ap (λ k. Some k) (omega arith)
 
@@ -86,7 +86,7 @@ one_more_given door port old ways mid way new so_far fresh next given lent other
 
 -- ---- duties
 
-none_left : {X : Type 0} (xs : List X) → length xs ≡ 0 → xs ≡ []
+pub none_left : {X : Type 0} (xs : List X) → length xs ≡ 0 → xs ≡ []
 none_left [] none = refl
 none_left (x ∷ xs) none = grind (arith, none)
 

@@ -13,6 +13,7 @@ use Rattle.door_duty.specs.Along.{with_more}
 use Rattle.serve_run.specs.Gate.{PlainGate}
 use Rattle.serve_run.specs.declared.back.Tally.{Tally}
 use Rattle.serve_run.specs.Back.{PlainEnd, AreTakenBack, IfWorked, IsAsFull, IsTold, came_back, end_by, most, record_of, worked_ends}
+use Rattle.serve_run.proofs.Giving.{none_left, none_lent}
 
 abbrev pub nothing_counted : Tally
 nothing_counted = record { connections = 0; has_failed = false; any_back = false }
@@ -21,15 +22,11 @@ more_none : {X : Type 0} (told : Option (List X)) → told ≡ with_more told []
 more_none None = refl
 more_none (Some xs) = ap (λ ys. Some ys) (sym (append-nil xs))
 
-lent_none : (told : Option ℕ) → told ≡ more_by 0 told
-lent_none None = refl
-lent_none (Some n) = ap (λ k. Some k) (omega arith)
-
 -- before the first
 pub none_taken : (gate : PlainGate) → AreTakenBack gate [] gate nothing_counted
 none_taken gate = record {
   returned = more_none gate.returned;
-  lent = lent_none gate.lent;
+  lent = none_lent gate.lent;
   connections = omega arith;
   has_failed = refl;
   any_back = refl;
@@ -205,10 +202,6 @@ one_done end_of all left rest out old mid new before after it first step = recor
       ∙ ap (λ outs. it.ends ++ map (end_by end_of) outs) (sym first) ∙ it.joined;
   taken = step old it.ends it.taken;
 }
-
-none_left : {X : Type 0} (xs : List X) → length xs ≡ 0 → xs ≡ []
-none_left [] none = refl
-none_left (x ∷ xs) none = grind (arith, none)
 
 pub all_done : {D : Type 0} (end_of : D → PlainEnd) (all left : List (Outcome D)) (old new : PlainGate) (tally : Tally)
     → AreTakenOf end_of all left old new tally → length left ≡ 0 → AreTakenBack old (map (end_by end_of) all) new tally

@@ -20,23 +20,22 @@ abbrev pub pass_of_none : Book → Rooms → PlainPass
 pass_of_none book rooms = record { book = book; rooms = rooms; entries = []; shuts = 0 }
 
 -- The links of one way were served one after another with one pass, which began with none and has seen a legal list then;
--- the way is told by these, for its door and port, and where it told how many links it had they are all of them.
+-- the way is told by these, for its door and port.
 pub record IsServedWay (serves : PlainPass → LinkRecord → PlainPass → Type 0) (first : PlainPass) (door : Door) (port : ℕ)
-    (number : Option ℕ) (links : List LinkRecord) (way : WayRecord) (last : PlainPass) : Type 0 where
+    (links : List LinkRecord) (way : WayRecord) (last : PlainPass) : Type 0 where
   pub served : AreServed serves first links last
   pub legal : IsLegal last.rooms last.entries
   pub door_is : way.door ≡ door
   pub port_is : way.port ≡ port
   pub links_are : IfSome way.links (λ told. told ≡ links)
-  pub all : IfSome number (λ n. n ≡ length links)
 
 -- each of the ways was served so
 abbrev pub AreServedWays : (PlainPass → LinkRecord → PlainPass → Type 0) → PlainPass → Door → ℕ
-    → List (Option ℕ) → List (List LinkRecord) → List WayRecord → Type 0
-AreServedWays serves first door port [] [] [] = ⊤
-AreServedWays serves first door port (number ∷ numbers) (links ∷ more) (way ∷ ways) =
-    ((last : PlainPass) × IsServedWay serves first door port number links way last) × AreServedWays serves first door port numbers more ways
-AreServedWays serves first door port numbers more ways = ⊥
+    → List (List LinkRecord) → List WayRecord → Type 0
+AreServedWays serves first door port [] [] = ⊤
+AreServedWays serves first door port (links ∷ more) (way ∷ ways) =
+    ((last : PlainPass) × IsServedWay serves first door port links way last) × AreServedWays serves first door port more ways
+AreServedWays serves first door port more ways = ⊥
 
 -- the ways to come had at first as many links as these
 abbrev pub AreAllOf : List (List LinkRecord) → Option (List ℕ) → List ℕ → Type 0
@@ -45,8 +44,7 @@ AreAllOf links after numbers = (rest : List ℕ) × (numbers ≡ map length link
 -- So many ways were given at the door, each was served, and where the gate told how many links they had, they are all of them.
 pub record IsServedDoor (serves : PlainPass → LinkRecord → PlainPass → Type 0) (first : PlainPass) (door : Door) (port workers : ℕ)
     (old new : PlainGate) (links : List (List LinkRecord)) (ways : List WayRecord) : Type 0 where
-  pub numbers : List (Option ℕ)
-  pub each : AreServedWays serves first door port numbers links ways
+  pub each : AreServedWays serves first door port links ways
   pub number : length links ≡ workers
   pub given : new.given door ≡ old.given door + workers
   pub all : IfSome (old.to_come door) (AreAllOf links (new.to_come door))

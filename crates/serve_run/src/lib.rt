@@ -9,3 +9,6 @@ mod serving;
 
 pub use fault::ServeFault;
 pub use serving::{Doors, serve};
+
+#[cfg(test)]
+mod tests;

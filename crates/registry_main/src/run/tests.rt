@@ -1,7 +1,8 @@
 //! Scripts over memory, with the answers that a person works out.
 use super::*;
 use crate::samples::{FREE_ROW, policy_of};
-use link_face::{FailingSink, FailingSource, FixedDay, MemSink, MemSource};
+use door_face::{InTurn, MemGate};
+use link_face::{FailingSink, FailingSource, FixedDay, MemLink, MemSink, MemSource};
 use std::test::Fail;
 
 mod faults;
@@ -30,8 +31,8 @@ const NO_FAULTS: Plan<'static> = Plan {
 };
 
 /// The end of a run of a command over a script that comes in pieces, and what it writes.
-fn answer(
-    rt: &HostRuntime,
+fn answer<R: AllocGlobal + Threads + Wait + Sync>(
+    rt: &R,
     command: &str,
     script: &[u8],
     piece: usize,
@@ -42,12 +43,27 @@ fn answer(
     let mut policy = FailingSource::new(MemSource::in_pieces(&bytes, 100), plan.policy);
     let mut script = FailingSource::new(MemSource::in_pieces(script, piece.max(1)), plan.script);
     let mut out = FailingSink::new(MemSink::new(rt.alloc()), plan.out, plan.passes);
-    let exit = run(rt, &words, &mut policy, &mut script, &mut out, &mut DAY);
+    let mut gate: MemGate<MemLink<'static>> = MemGate::new(rt.alloc());
+    let exit = run(
+        rt,
+        &words,
+        &mut policy,
+        &mut script,
+        &mut out,
+        &DAY,
+        &mut gate,
+        &mut InTurn,
+    );
     Ok((exit, out.bytes().to_vec(rt.alloc())?))
 }
 
 /// Whether a command writes so over a script, to its end, in whatever pieces it comes.
-fn is_written(rt: &HostRuntime, command: &str, script: &[u8], wanted: &[u8]) -> Result<bool, Fail> {
+fn is_written<R: AllocGlobal + Threads + Wait + Sync>(
+    rt: &R,
+    command: &str,
+    script: &[u8],
+    wanted: &[u8],
+) -> Result<bool, Fail> {
     for piece in [1usize, 7, 8192] {
         let (exit, written) = answer(rt, command, script, piece, &NO_FAULTS)?;
         if exit != Exit::Done || written.as_slice() != wanted {
@@ -58,6 +74,10 @@ fn is_written(rt: &HostRuntime, command: &str, script: &[u8], wanted: &[u8]) -> 
 }
 
 /// Whether a script is answered so.
-fn is_answered(rt: &HostRuntime, script: &[u8], answers: &[u8]) -> Result<bool, Fail> {
+fn is_answered<R: AllocGlobal + Threads + Wait + Sync>(
+    rt: &R,
+    script: &[u8],
+    answers: &[u8],
+) -> Result<bool, Fail> {
     is_written(rt, "batch", script, answers)
 }

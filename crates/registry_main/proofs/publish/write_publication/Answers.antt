@@ -1,6 +1,6 @@
 use Rattle.std.proofs.Common.{sym, subst}
 use Rattle.std.specs.Result.{OnErr}
-use Rattle.registry_main.specs.declared.command.Publication.{Publication}
+use Rattle.command_words.specs.declared.command.Publication.{Publication}
 use Rattle.registry_main.specs.Batch.{IsFrontWritten}
 use Rattle.registry_main.specs.Published.{session_text}
 use Rattle.registry_main.proofs.publish.write_publication.Goals as goal

@@ -24,7 +24,12 @@ fn front(text: &[u8], lines: usize, more: usize) -> &[u8] {
 }
 
 /// Whether the run ends so under a plan, after it wrote this.
-fn ends_so(rt: &HostRuntime, plan: &Plan<'_>, exit: Exit, wanted: &[u8]) -> Result<bool, Fail> {
+fn ends_so<R: AllocGlobal + Threads + Wait + Sync>(
+    rt: &R,
+    plan: &Plan<'_>,
+    exit: Exit,
+    wanted: &[u8],
+) -> Result<bool, Fail> {
     let (ended, written) = answer(rt, "batch", SCRIPT, 7, plan)?;
     Ok(ended == exit && written.as_slice() == wanted)
 }

@@ -28,8 +28,8 @@ fn reads_other_lines(rt: HostRuntime) -> Result<(), Fail> {
 }
 
 /// A line of so many bytes and its end. It begins as the text does and is filled up by a byte.
-fn long_line(
-    rt: &HostRuntime,
+fn long_line<R: AllocGlobal + Threads + Wait + Sync>(
+    rt: &R,
     text: &[u8],
     fill: u8,
     len: usize,

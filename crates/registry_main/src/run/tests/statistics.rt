@@ -76,7 +76,7 @@ receive 192.0.2.0/24
 "#;
 
 /// Whether a case's script leaves the register of the case's file.
-fn is_published(rt: &HostRuntime, case: &str) -> Result<bool, Fail> {
+fn is_published<R: AllocGlobal + Threads + Wait + Sync>(rt: &R, case: &str) -> Result<bool, Fail> {
     let (mut script, mut file) = (Vec::new(rt.alloc()), Vec::new(rt.alloc()));
     add_lines(case, &mut script, &mut file)?;
     is_written(rt, "stats", &script, &file)
@@ -108,7 +108,12 @@ fn follows_the_last_line(rt: HostRuntime) -> Result<(), Fail> {
 }
 
 /// Whether `stats` over a script of two lines, which comes in pieces of seven bytes, ends so under a plan, and writes this.
-fn ends_so(rt: &HostRuntime, plan: &Plan<'_>, exit: Exit, wanted: &[u8]) -> Result<bool, Fail> {
+fn ends_so<R: AllocGlobal + Threads + Wait + Sync>(
+    rt: &R,
+    plan: &Plan<'_>,
+    exit: Exit,
+    wanted: &[u8],
+) -> Result<bool, Fail> {
     let (ended, written) = answer(rt, "stats", b"day 20240301\nreceive 10.0.0.0/24\n", 7, plan)?;
     Ok(ended == exit && written.as_slice() == wanted)
 }

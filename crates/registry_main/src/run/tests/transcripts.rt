@@ -333,7 +333,11 @@ pub fn add_lines(
 }
 
 /// Whether a case is answered as it says, behind what goes before it.
-fn goes_so(rt: &HostRuntime, before: &str, case: &str) -> Result<bool, Fail> {
+fn goes_so<R: AllocGlobal + Threads + Wait + Sync>(
+    rt: &R,
+    before: &str,
+    case: &str,
+) -> Result<bool, Fail> {
     let (mut script, mut answers) = (Vec::new(rt.alloc()), Vec::new(rt.alloc()));
     add_lines(before, &mut script, &mut answers)?;
     add_lines(case, &mut script, &mut answers)?;

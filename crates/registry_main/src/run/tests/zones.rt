@@ -70,7 +70,7 @@ return 192.0.2.0/24 ORG-A
 "#;
 
 /// Whether a case's script leaves the register of the case's zones.
-fn is_published(rt: &HostRuntime, case: &str) -> Result<bool, Fail> {
+fn is_published<R: AllocGlobal + Threads + Wait + Sync>(rt: &R, case: &str) -> Result<bool, Fail> {
     let (mut script, mut zones) = (Vec::new(rt.alloc()), Vec::new(rt.alloc()));
     add_lines(case, &mut script, &mut zones)?;
     is_written(rt, "zones", &script, &zones)
@@ -85,7 +85,12 @@ fn publishes_the_zones_that_a_script_leaves(rt: HostRuntime) -> Result<(), Fail>
 }
 
 /// Whether `zones` over a script of two lines, which comes in pieces of seven bytes, ends so under a plan, and writes this.
-fn ends_so(rt: &HostRuntime, plan: &Plan<'_>, exit: Exit, wanted: &[u8]) -> Result<bool, Fail> {
+fn ends_so<R: AllocGlobal + Threads + Wait + Sync>(
+    rt: &R,
+    plan: &Plan<'_>,
+    exit: Exit,
+    wanted: &[u8],
+) -> Result<bool, Fail> {
     let (ended, written) = answer(
         rt,
         "zones",

@@ -4,7 +4,7 @@ use Rattle.registry_main.specs.Session.{PlainSession}
 use Rattle.registry_main.specs.Batch.{BeginsWith, IsUpToDate, known}
 use Rattle.registry_main.proofs.Ends.{done_not_read, read_not_done, write_not_done, write_not_read}
 use Rattle.registry_main.proofs.Written.{batch_replies, kept_begins}
-use Rattle.registry_main.proofs.run.answer_batch.Goals as goal
+use Rattle.registry_main.proofs.command.answer_batch.Goals as goal
 
 pub returns-in-Ok-answer_script-clause-answered : goal.returns-in-Ok-answer_script-clause-answered
 returns-in-Ok-answer_script-clause-answered g c =
