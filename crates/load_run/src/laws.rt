@@ -1,11 +1,10 @@
 //! What holds of every load, each proved as the contract of a function that does nothing.
 ghost use Rattle.std.specs.Prelude.{ℕ, List};
 ghost use Rattle.reg_entry.specs.declared.rooms.Rooms.{Rooms};
-ghost use Rattle.reg_entry.specs.Entry.{PlainEntry};
 ghost use Rattle.reg_entry.specs.Policy.{PlainPolicy, IsPolicy};
 ghost use Rattle.reg_laws.specs.Reached.{IsReached};
-ghost use Rattle.board.specs.Conserved.{IsConservedBy};
 ghost use Rattle.load_gen.specs.Load.{loaded};
+ghost use Rattle.load_run.specs.Conserved.{IsConservedLoad};
 
 use reg_laws::next::accepted_may_come_next;
 use reg_laws::reached::{
@@ -26,7 +25,7 @@ pub fn loads_are_legal()
 /// It loses none of their numbers and holds none twice.
 pub fn loads_conserve()
     ensures { (rooms : Rooms) (p : PlainPolicy) (who : List ℕ) (seed count : ℕ) → IsPolicy p
-        → (es : List PlainEntry) × IsConservedBy (loaded rooms p who seed count).register es }
+        → IsConservedLoad rooms p who seed count }
 {
     loads_are_legal();
     reached_registers_conserve();

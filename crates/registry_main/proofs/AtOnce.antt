@@ -1,5 +1,5 @@
 -- Texts that are written at once: the line that tells of the connections of a service, and the summary of a load.
-use Rattle.std.proofs.Common.{◌≡◌, ◌∙◌, ℕ, List, [], Option, None, Some, refl, sym, subst, append-nil}
+use Rattle.std.proofs.Common.{◌≡◌, ◌∙◌, ℕ, List, [], Option, None, Some, sym, subst, append-nil}
 use Rattle.std.specs.Io.KnownBytes.{Appends}
 use Rattle.link_face.specs.Bytes.{AppendsPrefix}
 use Rattle.reg_entry.specs.Policy.{PlainPolicy}

@@ -1,4 +1,5 @@
 pub mod Applied
+pub mod Commands
 pub mod Ends
 pub mod Fed
 pub mod Entries

@@ -1,32 +1,11 @@
 -- The days that are shown of a whole register can be written, and its cards' holders are there.
-use Rattle.std.proofs.Common.{◌≡◌, ℕ, ◌<◌, ◌≤◌, Bool, true, false, cond, List, [], ◌∷◌, length, Option, None, Some, IfSome, refl, sym, arith}
-use Rattle.std.specs.Prelude.{◌+◌, ◌*◌, ◌/◌, not, ◌&&◌, ◌==◌, nat_eq, nat_lt}
-use Rattle.std.specs.Option.{option_or, option_map, option_and_then, option_eq}
+use Rattle.std.proofs.Common.{◌≡◌, ◌<◌, ◌≤◌, length, Option, None, Some, IfSome, sym, arith}
 use Rattle.num_range.specs.Number.{PlainNumber}
-use Rattle.num_range.specs.Range.{PlainRange}
-use Rattle.reg_entry.specs.declared.card.Card.{Card}
 use Rattle.reg_entry.specs.declared.piece.Piece.{Piece}
-use Rattle.reg_entry.specs.declared.refusal.Refusal.{Refusal}
-use Rattle.reg_entry.specs.declared.refusal.Refusal.TheVariants.{NotOnePiece, WrongStatus, NotHolder, CardsDiffer, HolderKind, OverCap, UnderUsed, HoldTime, NotDue}
-use Rattle.reg_entry.specs.declared.card.Status.{Status}
-use Rattle.reg_entry.specs.declared.policy.Row.{Row}
-use Rattle.num_range.specs.declared.space.Space.{Space}
-use Rattle.reg_entry.specs.declared.request.Request.{Request}
-use Rattle.reg_entry.specs.declared.request.Request.TheVariants.{Receive, AddHolder, EditHolder, Delegate, Reserve, Unreserve, SubAssign, SubReturn, Return, Release, Split, Join, Transfer, SetReverse, ClearReverse}
 use Rattle.reg_entry.specs.Days.{last_date}
-use Rattle.reg_entry.specs.Covers.{first_number, number_before}
-use Rattle.reg_entry.specs.Decision.{refuse_if, first_of, on_piece, not_in_one_piece, not_one_piece, begins_a_piece, begins_no_piece, wrong_status, not_holder, cards_differ, kind_left_out, over_cap, under_used, transfer_rules, transferred_size, within_hold_time, not_due, early_rules, policy_rules, late_rules, refusal_of, reply_of, proposed_entry, decision}
-use Rattle.reg_entry.specs.Request.{status_of, amount_size}
-use Rattle.reg_entry.specs.Ranges.{same_range, lies_inside}
-use Rattle.reg_entry.specs.Sums.{held, allocated, used}
-use Rattle.reg_entry.specs.Card.{same_card}
-use Rattle.reg_entry.specs.Holders.{holder_number, holder_named, handle_at}
-use Rattle.reg_entry.specs.Entry.{PlainEntry}
-use Rattle.reg_entry.specs.Policy.{PlainPolicy, policy_row, lists_kind}
 use Rattle.reg_entry.specs.Register.{Register, register_pieces, piece_of}
 use Rattle.reg_entry.specs.Whole.{IsCardIn, IsWholeRegister}
 use Rattle.board.proofs.Known.{card_in, card_holder}
-use Rattle.desk_text.specs.ReplyText.{RefusalHasDate, ReplyHasDate}
 
 -- ---- pieces
 

@@ -1,5 +1,5 @@
 -- What the command `serve` writes, where the bytes are known, and which commands open doors or read a script.
-use Rattle.std.specs.Prelude.{◌≡◌, ◌++◌, ℕ, Bool, true, false, List, Option, None, Some, codes, decimal}
+use Rattle.std.specs.Prelude.{◌≡◌, ◌++◌, ℕ, Bool, true, false, List, Option, Some, codes, decimal}
 use Rattle.std.specs.Io.KnownBytes.{Appends}
 use Rattle.reg_entry.specs.Policy.{PlainPolicy}
 use Rattle.command_words.specs.declared.command.Command.{Command}

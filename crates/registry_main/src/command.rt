@@ -1,5 +1,6 @@
 //! What each command does under a policy, but for `serve`.
-ghost use Rattle.std.specs.Prelude.{◌≡◌, ◌≢◌, ◌≤◌, ◌+◌, ◌⊎◌, ℕ, false, true, Some, Ok, Err};
+ghost use Rattle.std.specs.Prelude.{◌≡◌, ◌≢◌, ◌≤◌, ◌+◌, ◌⊎◌, [], ℕ, false, true, Some, Ok, Err};
+ghost use Rattle.std.specs.Io.KnownBytes.{Keeps, IsAtEnd};
 ghost use Rattle.link_face.specs.Faults.{HasRisen};
 ghost use Rattle.mirror_core.specs.declared.fault.FeedFault.{FeedFault};
 ghost use Rattle.mirror_core.specs.declared.fault.FeedFault.TheVariants as feed_faults;
@@ -9,7 +10,7 @@ ghost use Rattle.reg_entry.specs.Policy.{PlainPolicy, IsPolicy};
 ghost use Rattle.command_words.specs.declared.command.Command.TheVariants.{Batch, Publish, Mirror, Load};
 ghost use Rattle.command_words.specs.declared.command.Publication.{Publication};
 ghost use Rattle.command_words.specs.declared.command.Publication.TheVariants.{Statistics};
-ghost use Rattle.registry_main.specs.Batch.{known, IsAnswered};
+ghost use Rattle.registry_main.specs.Batch.{known, with_all_replies, BeginsWith, IsUpToDate, IsAnswered};
 ghost use Rattle.registry_main.specs.Load.{IsLoaded};
 ghost use Rattle.registry_main.specs.Mirror.{IsMirrored};
 ghost use Rattle.registry_main.specs.PolicyBytes.{policy_front, IsSaid, IfSaid};
@@ -32,6 +33,31 @@ use std::alloc::Global;
 /// Lets a session go. It is a function of its own, so that this is proved apart from what was answered.
 fn discard(session: Session) {
     drop(session);
+}
+
+/// Answers a script with a session.
+fn answer_over<T: Source, K: Sink>(session: &mut Session, script: &mut T, out: &mut K) -> Exit
+    ensures front { BeginsWith (with_all_replies (K.written out.old) session.old [] (T.left script.old)) (K.written out.new) }
+    ensures done { result ≡ Done
+        → Keeps (with_all_replies (K.written out.old) session.old [] (T.left script.old)) (K.written out.new) × IsAtEnd (T.left script.new) }
+    ensures up_to_date { result ≡ ReadFault → IsUpToDate session.old
+        (known (T.taken script.old) (T.left script.old) (K.written out.old)) (known (T.taken script.new) (T.left script.new) (K.written out.new)) }
+    ensures ended { result ≡ Done → T.has_ended script.new }
+    ensures no_usage { result ≢ Usage }
+    ensures no_memory { result ≢ NoMemory }
+    ensures no_spawn { result ≢ SpawnFault }
+    ensures no_refusal { (fault : PolicyFault) → result ≢ PolicyRefused fault }
+    ensures no_feed { (fault : FeedFault) → result ≢ FeedRefused fault }
+    ensures read { result ≡ ReadFault → HasRisen (T.faults script.old) (T.faults script.new) }
+    ensures read_told { result ≢ ReadFault → T.faults script.new ≡ T.faults script.old }
+    ensures write { result ≡ WriteFault → HasRisen (K.faults out.old) (K.faults out.new) }
+    ensures write_told { result ≢ WriteFault → K.faults out.new ≡ K.faults out.old }
+{
+    match answer_script(session, script, out) {
+        Ok(()) => Exit::Done,
+        Err(Stop::Read) => Exit::ReadFault,
+        Err(Stop::Write) => Exit::WriteFault,
+    }
 }
 
 /// Answers a script under a policy, on a day of the clock.
@@ -59,13 +85,9 @@ fn answer_batch<T: Source, K: Sink, C: Clock>(
     let Ok(mut session) = Session::new(alloc, policy, clock.day()) else {
         return Exit::NoMemory;
     };
-    let answered = answer_script(&mut session, script, out);
+    let exit = answer_over(&mut session, script, out);
     discard(session);
-    match answered {
-        Ok(()) => Exit::Done,
-        Err(Stop::Read) => Exit::ReadFault,
-        Err(Stop::Write) => Exit::WriteFault,
-    }
+    exit
 }
 
 /// Does what a command asks for under a policy, if it is another than `serve`.

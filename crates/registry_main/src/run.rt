@@ -27,7 +27,7 @@ ghost use Rattle.mirror_core.specs.Feed.{fed};
 ghost use Rattle.mirror_laws.specs.Feed.{IsFeedOf, last_serial};
 ghost use Rattle.mirror_laws.specs.Follows.{Follows};
 ghost use Rattle.mirror_laws.specs.Forms.{ArePublished};
-ghost use Rattle.load_gen.specs.Load.{loaded};
+ghost use Rattle.load_run.specs.Conserved.{IsConservedLoad};
 ghost use Rattle.serve_run.specs.Gate.{plain_gate};
 ghost use Rattle.registry_main.specs.Session.{rooms, entries_after, register_over};
 ghost use Rattle.registry_main.specs.Batch.{known, IsAnswered};
@@ -196,7 +196,7 @@ pub fn run<
 
     // A load's register is that of legal entries too, and loses none of their numbers.
     ensures load_conserved { (p : PlainPolicy) (who : List ℕ) (seed requests : ℕ) → IsPolicy p
-        → (es : List PlainEntry) × IsConservedBy (loaded rooms p who seed requests).register es }
+        → IsConservedLoad rooms p who seed requests }
 
     // A delegation takes the least free block, aligned and all of it available, and an overlap is told by the least
     // number that is taken.

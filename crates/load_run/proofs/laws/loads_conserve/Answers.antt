@@ -9,9 +9,10 @@ returns c rooms p who seed count policy =
     let es = reached.0 in
     let of = reached.1 in
     let conserve = c.reached_registers_conserve.ensures in
-    let counted = c.reached_registers_count.ensures in (
-      es,
-      record {
+    let counted = c.reached_registers_count.ensures in
+    record {
+      entries = es;
+      conserved = record {
         register = of;
         cards = λ n. conserve.cards r es n of;
         once = λ n. conserve.once r es n of;
@@ -20,5 +21,5 @@ returns c rooms p who seed count policy =
         entries = counted.entries r es of;
         first_day = counted.first_day r es of;
         last_day = counted.last_day r es of;
-      },
-    )
+      };
+    }
