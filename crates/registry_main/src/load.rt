@@ -1,5 +1,5 @@
 //! A load, and its summary.
-ghost use Rattle.std.specs.Prelude.{◌≡◌, ◌≢◌, ◌⊎◌};
+ghost use Rattle.std.specs.Prelude.{◌≡◌, ◌≢◌};
 ghost use Rattle.link_face.specs.Faults.{HasRisen};
 ghost use Rattle.mirror_core.specs.declared.fault.FeedFault.{FeedFault};
 ghost use Rattle.policy_table.specs.declared.fault.PolicyFault.{PolicyFault};

@@ -1,5 +1,5 @@
 -- What the workers of both doors leave is a service.
-use Rattle.std.proofs.Common.{◌≡◌, ◌≢◌, ℕ, suc, ◌+◌, ◌<◌, ◌≤◌, ◌||◌, Bool, true, false, List, [], ◌∷◌, ◌++◌, length, map, min, All, Option, None, Some, IfSome, Result, Ok, Err, inl, inr, refl, sym, ap, ◌∙◌, subst, append_assoc, append-nil, length-append, true≢false, arith}
+use Rattle.std.proofs.Common.{◌≡◌, ◌≢◌, ℕ, suc, ◌+◌, ◌<◌, ◌≤◌, ◌||◌, Bool, true, false, List, [], ◌∷◌, ◌++◌, length, map, min, All, Option, None, Some, IfSome, Result, Ok, Err, inl, inr, refl, sym, ap, ◌∙◌, subst, append-nil, length-append, true≢false, arith}
 use Rattle.std.specs.Result.{IsOk, IfOk}
 use Rattle.std.specs.List.{list_any, sum_by, AllZip}
 use Rattle.std.proofs.lemmas.List.Sums.{sum_by-append, sum_by-cons}
@@ -12,9 +12,8 @@ use Rattle.door_face.specs.declared.door.Door.{Door}
 use Rattle.door_face.specs.declared.door.Door.TheVariants.{Http, Line}
 use Rattle.door_face.specs.declared.outcome.Outcome.{Outcome}
 use Rattle.door_face.specs.declared.outcome.Outcome.TheVariants.{Ended, Back}
-use Rattle.door_face.specs.Doors.{LinkRecord, WayRecord, more_by}
+use Rattle.door_face.specs.Doors.{LinkRecord, more_by}
 use Rattle.door_face.specs.Duties.{EndsAs}
-use Rattle.link_face.specs.Faults.{HasRisen}
 use Rattle.snapshot_pub.specs.Pass.{PlainPass}
 use Rattle.desk_book.specs.Book.{PlainBook, first_pass}
 use Rattle.hall.specs.Desk.{among_others}
@@ -23,7 +22,7 @@ use Rattle.door_duty.specs.Served.{HasServedConnection, HasServedLine, IsWorked}
 use Rattle.serve_run.specs.Gate.{PlainGate, IsNewWay, IsFrontGiven, HasGiven}
 use Rattle.serve_run.specs.Duties.{AreDuties}
 use Rattle.serve_run.specs.Back.{PlainEnd, IsTold, IfWorked, AreTakenBack, came_back, end_by, most, record_of, worked_ends}
-use Rattle.serve_run.specs.Service.{IsServedWay, AreServedWays, AreAllOf, IsServedDoor, IsServed, pass_of_none}
+use Rattle.serve_run.specs.Service.{IsServedWay, AreServedWays, AreAllOf, IsServed, pass_of_none}
 use Rattle.serve_run.specs.declared.fault.ServeFault.{ServeFault}
 use Rattle.serve_run.specs.declared.fault.ServeFault.TheVariants.{NoMemory, Gate as GateFault, Spawn}
 use Rattle.serve_run.proofs.Taking.{all_worked}

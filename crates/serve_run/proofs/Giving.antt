@@ -1,8 +1,8 @@
 -- Ways that a gate gives, one after another.
-use Rattle.std.proofs.Common.{◌≡◌, ◌≢◌, ℕ, ◌+◌, List, [], ◌∷◌, ◌++◌, length, map, All, Option, None, Some, IfSome, refl, sym, ap, ◌∙◌, subst, append_assoc, append-nil, length-append, arith}
+use Rattle.std.proofs.Common.{◌≡◌, ◌≢◌, ℕ, ◌+◌, List, [], ◌∷◌, ◌++◌, length, map, All, Option, None, Some, IfSome, refl, sym, ap, ◌∙◌, subst, append_assoc, length-append, arith}
 use Rattle.std.proofs.lemmas.List.Elements.{All-head, All-nil, All-push, All-tail}
 use Rattle.door_face.specs.declared.door.Door.{Door}
-use Rattle.door_face.specs.Doors.{WayRecord, more_by}
+use Rattle.door_face.specs.Doors.{more_by}
 use Rattle.door_duty.specs.Along.{PlainWay}
 use Rattle.serve_run.specs.Gate.{PlainGate, IsNewWay, IsFrontGiven, HasGiven}
 use Rattle.serve_run.specs.Duties.{AreDuties}

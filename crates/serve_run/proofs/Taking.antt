@@ -1,5 +1,5 @@
 -- Ways that go back to the gate, one after another.
-use Rattle.std.proofs.Common.{◌≡◌, ℕ, ◌+◌, ◌-◌, ◌^◌, ◌≤◌, ◌<◌, ◌||◌, Bool, true, false, List, [], ◌∷◌, ◌++◌, length, map, min, All, Option, None, Some, IfSome, inl, inr, refl, sym, ap, ◌∙◌, subst, append_assoc, append-nil, length-append, true≢false, arith}
+use Rattle.std.proofs.Common.{◌≡◌, ℕ, ◌+◌, ◌-◌, ◌≤◌, ◌||◌, Bool, true, false, List, [], ◌∷◌, ◌++◌, length, map, min, All, Option, None, Some, IfSome, inl, inr, refl, sym, ap, ◌∙◌, subst, append_assoc, append-nil, length-append, true≢false, arith}
 use Rattle.std.specs.List.{list_any, sum_by}
 use Rattle.std.proofs.lemmas.List.Sums.{sum_by-append}
 use Rattle.std.proofs.lemmas.List.Elements.{All-head, All-tail}
@@ -12,7 +12,7 @@ use Rattle.link_face.specs.Faults.{HasRisen}
 use Rattle.door_duty.specs.Along.{with_more}
 use Rattle.serve_run.specs.Gate.{PlainGate}
 use Rattle.serve_run.specs.declared.back.Tally.{Tally}
-use Rattle.serve_run.specs.Back.{PlainEnd, AreTakenBack, IfWorked, IsAsFull, IsTold, came_back, end_by, most, record_of, worked_ends}
+use Rattle.serve_run.specs.Back.{PlainEnd, AreTakenBack, IfWorked, IsTold, came_back, end_by, most, record_of, worked_ends}
 use Rattle.serve_run.proofs.Giving.{none_left, none_lent}
 
 abbrev pub nothing_counted : Tally

@@ -1,5 +1,5 @@
 -- What becomes of the ways of the workers, and how their connections are counted.
-use Rattle.std.specs.Prelude.{◌≡◌, ◌+◌, ◌-◌, ◌^◌, ◌<◌, ◌≤◌, ℕ, Bool, true, false, List, [], ◌∷◌, Option, None, Some, min, map, length, ⊤}
+use Rattle.std.specs.Prelude.{◌≡◌, ◌-◌, ◌^◌, ◌<◌, ◌≤◌, ℕ, Bool, true, false, List, [], ◌∷◌, Option, None, Some, min, map, length, ⊤}
 use Rattle.std.specs.List.{list_any, sum_by}
 use Rattle.door_face.specs.declared.door.Door.{Door}
 use Rattle.door_face.specs.declared.outcome.Outcome.{Outcome}

@@ -1,5 +1,5 @@
 //! Serving both doors.
-ghost use Rattle.std.specs.Prelude.{◌≡◌, ◌≢◌, ◌≤◌, [], All, IfOk, IsOk, Err, length};
+ghost use Rattle.std.specs.Prelude.{◌≡◌, ◌≢◌, ◌≤◌, [], All, IfOk, Err, length};
 ghost use Rattle.reg_entry.specs.Rooms.{AreRooms};
 ghost use Rattle.link_face.specs.Faults.{HasRisen};
 ghost use Rattle.desk_book.specs.Book.{first_pass};

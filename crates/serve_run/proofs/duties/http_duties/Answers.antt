@@ -1,5 +1,4 @@
 use Rattle.std.proofs.Common.{◌≡◌, ◌∙◌, refl, rules, sym}
-use Rattle.std.specs.Prelude.{All}
 use Rattle.std.specs.Vec.Iter.{into_iter_items}
 use Rattle.serve_run.proofs.Giving.{none_made, all_made, first_is, rest_are, new_way, next_given, one_more_made}
 use Rattle.serve_run.proofs.duties.http_duties.Goals as goal
