@@ -82,14 +82,22 @@ fn link_of(alloc: Global, text: &[u8]) -> MemLink<'_>
     }
 }
 
-// A way with the connections.
-fn way_of(alloc: Global, texts: &[&'static [u8]]) -> Result<MemWay<MemLink<'static>>, AllocError>
+// A way with two connections over HTTP.
+fn http_way(alloc: Global) -> Result<MemWay<MemLink<'static>>, AllocError>
     ensures { IfOk result IsUnused }
 {
     let mut way = MemWay::new(alloc);
-    for text in texts {
-        way.add(link_of(alloc, text))?;
-    }
+    way.add(link_of(alloc, RECEIVE))?;
+    way.add(link_of(alloc, HELP))?;
+    Ok(way)
+}
+
+// A way with the connection of one line.
+fn line_way(alloc: Global) -> Result<MemWay<MemLink<'static>>, AllocError>
+    ensures { IfOk result IsUnused }
+{
+    let mut way = MemWay::new(alloc);
+    way.add(link_of(alloc, QUERY))?;
     Ok(way)
 }
 
@@ -98,8 +106,8 @@ fn gate_of(alloc: Global) -> Result<MemGate<MemLink<'static>>, AllocError>
     ensures { IfOk result (λ gate. gate.lent ≡ 0) }
 {
     let mut gate = MemGate::new(alloc);
-    gate.add(Door::Http, way_of(alloc, &[RECEIVE, HELP])?)?;
-    gate.add(Door::Line, way_of(alloc, &[QUERY])?)?;
+    gate.add(Door::Http, http_way(alloc)?)?;
+    gate.add(Door::Line, line_way(alloc)?)?;
     Ok(gate)
 }
 
