@@ -5,6 +5,7 @@ use door_face::{InTurn, MemGate};
 use link_face::{FailingSink, FailingSource, FixedDay, MemLink, MemSink, MemSource};
 use std::test::Fail;
 
+mod doors;
 mod faults;
 mod lines;
 mod statistics;
