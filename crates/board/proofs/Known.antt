@@ -10,6 +10,7 @@ use Rattle.reg_entry.specs.Pieces.{piece_holds, piece_at}
 use Rattle.num_range.specs.Number.{PlainNumber}
 use Rattle.reg_entry.specs.Register.{Register, register_pieces, piece_of, card_of}
 use Rattle.reg_entry.specs.Holdings.{gives_held}
+use Rattle.board.specs.FoundPiece.{HasKnownHolder}
 use Rattle.reg_entry.specs.Whole.{IsCardIn, HaveCardsIn, IsKnownHolder, IsWholeRegister}
 use Rattle.reg_entry.proofs.Holding.{piece_at-first, piece_at-rest}
 
@@ -32,10 +33,14 @@ card_holder r c h =
       | inr f ↦ subst (λ (o : Option ℕ). IfSome o (λ number. number < length r.holders)) (sym (h.nobody f)) tt
     ]
 
--- said of the result of a look-up in one of the register's spaces
-pub holder_known : (r : Register) (n : PlainNumber) (p : Piece) → IsWholeRegister r → piece_of r.pool n ≡ Some p
+holder_known : (r : Register) (n : PlainNumber) (p : Piece) → IsWholeRegister r → piece_of r.pool n ≡ Some p
     → IfSome p.card.holder (λ number. number < length r.holders)
 holder_known r n p whole e = card_holder r p.card (card_in r (register_pieces r n.space) n.value p (whole.cards n.space) e)
+
+-- said of the result of a look-up in one of the register's spaces
+pub holder_if : (r : Register) (n : PlainNumber) (o : Option Piece) → IsWholeRegister r → o ≡ piece_of r.pool n → IfSome o (HasKnownHolder r)
+holder_if r n None whole e = tt
+holder_if r n (Some p) whole e = holder_known r n p whole (sym e)
 
 -- ---- of the card of a number
 

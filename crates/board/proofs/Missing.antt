@@ -56,3 +56,9 @@ missing_past (q ∷ qs) x last h =
           here q qs x last t ∙ missing_past qs (q.range.last + 1) last (omega arith)
       | inr f ↦ past q qs x last f ∙ missing_past qs x last h
     ]
+
+-- none is missing of numbers that one piece has
+pub none_missing : (space : Space) (ps : List Piece) (x last : ℕ) (p : Piece) → RisesFrom 0 ps → AllPiecesOf space ps
+    → piece_at ps x ≡ Some p → last ≤ p.range.last → least_missing ps x last ≡ None
+none_missing space ps x last p rises each e h =
+    missing_behind space 0 ps x last p rises each e ∙ missing_past ps (p.range.last + 1) last (omega arith)

@@ -16,7 +16,7 @@ use Rattle.reg_entry.specs.declared.sub_card.SubCard.{SubCard}
 use Rattle.reg_entry.specs.Card.{is_available, is_delegated}
 use Rattle.reg_entry.specs.Covers.{card_for, first_number}
 use Rattle.reg_entry.specs.Entry.{PlainEntry}
-use Rattle.reg_entry.specs.Next.{IsNextEntry, until_of}
+use Rattle.reg_entry.specs.Next.{until_of}
 use Rattle.reg_entry.specs.Partition.{Partition, pieces_in, with_pieces, piece_count}
 use Rattle.reg_entry.specs.Pieces.{laid}
 use Rattle.reg_entry.specs.Register.{Register, piece_of, card_of, reshaped, painted, pool_after, holders_after, subs_after, reverses_after, after_entry}

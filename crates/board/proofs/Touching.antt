@@ -4,7 +4,6 @@ use Rattle.num_range.specs.declared.space.Space.{Space}
 use Rattle.num_range.specs.declared.space.Space.TheVariants.{Asn, Ipv4, Ipv6}
 use Rattle.reg_entry.specs.declared.piece.Piece.{Piece}
 use Rattle.reg_entry.specs.Partition.{Partition, pieces_in, with_pieces}
-use Rattle.piece_book.specs.Touched.{IsTouched}
 use Rattle.op_feed.specs.TouchedBy.{IsTouchedBy}
 
 with_those : (pool : Partition) (space : Space) (ps : List Piece) → pieces_in (with_pieces pool space ps) space ≡ ps

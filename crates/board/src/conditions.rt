@@ -1,13 +1,14 @@
-//! The reasons for a refusal, each a condition with a name of its own.
-ghost use Rattle.std.specs.Prelude.{◌≡◌, ◌<◌, length, IfSome};
-ghost use Rattle.std.specs.Option.{option_and_then};
-ghost use Rattle.reg_entry.specs.declared.card.Status.TheVariants.{Reserved, Quarantine, Allocated};
-ghost use Rattle.reg_entry.specs.Card.{is_available, is_delegated};
-ghost use Rattle.reg_entry.specs.Covers.{first_number, number_before};
+//! The reasons for a refusal, each a condition with a name of its own. What a condition says of a piece or of a handle's
+//! holder it says of what was found, so that a decision looks each of them up once.
+ghost use Rattle.std.specs.Prelude.{◌≡◌, ◌==◌, ◌<◌, not, length, IfSome};
+ghost use Rattle.std.specs.Option.{is_some, option_and_then};
+ghost use Rattle.reg_entry.specs.declared.refusal.Refusal.TheVariants.{OutsidePool, NotOnePiece, WrongStatus, UnknownHolder, CardsDiffer};
+ghost use Rattle.reg_entry.specs.Card.{is_available, is_delegated, same_card};
 ghost use Rattle.reg_entry.specs.Holders.{handle_at};
-ghost use Rattle.board.specs.FoundPiece.{IsFoundIn};
+ghost use Rattle.reg_entry.specs.Ranges.{lies_inside, same_range};
 ghost use Rattle.reg_entry.specs.Register.{piece_of};
-ghost use Rattle.reg_entry.specs.Decision.{refuse_if, outside_unicast, outside_pool, number_outside_pool, begins_space, not_in_one_piece, not_one_piece, begins_a_piece, begins_no_piece, wrong_status, is_status, unknown_holder, not_holder, handle_taken, already_pooled, cards_differ};
+ghost use Rattle.reg_entry.specs.Decision.{refuse_if, begins_space, is_status, handle_taken, already_pooled};
+ghost use Rattle.board.specs.FoundPiece.{IsFoundIn, HasKnownHolder, of_other_holder};
 
 use crate::Board;
 use num_range::{Number, Range};
@@ -20,86 +21,88 @@ pub(crate) fn begins_space(n: Number) -> Option<Refusal>
     Refusal::OutsidePool { number: n }.when(n.value() == 0)
 }
 
+pub(crate) fn number_outside_pool(piece: Option<Piece>, n: Number) -> Option<Refusal>
+    ensures { result ≡ refuse_if (not (is_some piece)) (OutsidePool n) }
+{
+    Refusal::OutsidePool { number: n }.when(piece.is_none())
+}
+
+pub(crate) fn not_in_one_piece(piece: Option<Piece>, range: &Range) -> Option<Refusal>
+    ensures { result ≡ option_and_then (λ p. refuse_if (not (lies_inside range.now p.range)) (NotOnePiece p.range)) piece }
+{
+    let piece = piece?.range;
+    Refusal::NotOnePiece { piece }.when(!range.inside(&piece))
+}
+
+pub(crate) fn not_one_piece(piece: Option<Piece>, range: &Range) -> Option<Refusal>
+    ensures { result ≡ option_and_then (λ p. refuse_if (not (same_range range.now p.range)) (NotOnePiece p.range)) piece }
+{
+    let piece = piece?.range;
+    Refusal::NotOnePiece { piece }.when(*range != piece)
+}
+
+pub(crate) fn begins_a_piece(piece: Option<Piece>, at: Number) -> Option<Refusal>
+    ensures { result ≡ option_and_then (λ p. refuse_if (p.range.first == at.value) (NotOnePiece p.range)) piece }
+{
+    let piece = piece?.range;
+    Refusal::NotOnePiece { piece }.when(piece.first() == at.value())
+}
+
+pub(crate) fn begins_no_piece(piece: Option<Piece>, at: Number) -> Option<Refusal>
+    ensures { result ≡ option_and_then (λ p. refuse_if (not (p.range.first == at.value)) (NotOnePiece p.range)) piece }
+{
+    let piece = piece?.range;
+    Refusal::NotOnePiece { piece }.when(piece.first() != at.value())
+}
+
+pub(crate) fn not_available(piece: Option<Piece>) -> Option<Refusal>
+    ensures { result ≡ option_and_then (λ p. refuse_if (not (is_available p.card.status)) (WrongStatus p.card.status)) piece }
+{
+    let status = piece?.card.status;
+    Refusal::WrongStatus { status }.when(!status.is_available())
+}
+
+pub(crate) fn not_of_status(piece: Option<Piece>, wanted: Status) -> Option<Refusal>
+    ensures { result ≡ option_and_then (λ p. refuse_if (not (is_status wanted p.card.status)) (WrongStatus p.card.status)) piece }
+{
+    let status = piece?.card.status;
+    Refusal::WrongStatus { status }.when(status != wanted)
+}
+
+pub(crate) fn not_delegated(piece: Option<Piece>) -> Option<Refusal>
+    ensures { result ≡ option_and_then (λ p. refuse_if (not (is_delegated p.card.status)) (WrongStatus p.card.status)) piece }
+{
+    let status = piece?.card.status;
+    Refusal::WrongStatus { status }.when(!status.is_delegated())
+}
+
+/// The pieces on either side of a number.
+pub(crate) fn cards_differ(left: Option<Piece>, right: Option<Piece>) -> Option<Refusal>
+    ensures { result ≡ option_and_then (λ p. option_and_then (λ q. refuse_if (not (same_card p.card q.card)) (CardsDiffer p.range)) right) left }
+{
+    let left = left?;
+    let right = right?;
+    Refusal::CardsDiffer { left: left.range }.when(left.card != right.card)
+}
+
+/// The number of the holder, where there is one with the handle.
+pub(crate) fn unknown_holder(holder: Option<u32>, handle: &Handle) -> Option<Refusal>
+    ensures { result ≡ refuse_if (not (is_some holder)) (UnknownHolder handle.now) }
+{
+    Refusal::UnknownHolder { handle: *handle }.when(holder.is_none())
+}
+
 impl Board {
     /// The piece that holds the number.
-    #[tactic(auto, using(crate::proofs::FoundPieces::found_if))]
+    #[tactic(auto, using(crate::proofs::FoundPieces::found_if, crate::proofs::Known::holder_if))]
     pub fn piece_of(&self, n: Number) -> Option<Piece>
         ensures piece { result ≡ piece_of self.now.register.pool n }
         ensures found { IfSome result (IsFoundIn n.space 0 n.value) }
-    {
-        self.pieces().are_pieces();
-        self.pieces().piece_at(n)
-    }
-
-    pub(crate) fn number_outside_pool(&self, n: Number) -> Option<Refusal>
-        ensures { result ≡ number_outside_pool self.now.register n }
-    {
-        Refusal::OutsidePool { number: n }.when(self.piece_of(n).is_none())
-    }
-
-    pub(crate) fn not_in_one_piece(&self, range: &Range) -> Option<Refusal>
-        ensures { result ≡ not_in_one_piece self.now.register range.now }
-    {
-        let piece = self.piece_of(range.first_number())?.range;
-        Refusal::NotOnePiece { piece }.when(!range.inside(&piece))
-    }
-
-    pub(crate) fn not_one_piece(&self, range: &Range) -> Option<Refusal>
-        ensures { result ≡ not_one_piece self.now.register range.now }
-    {
-        let piece = self.piece_of(range.first_number())?.range;
-        Refusal::NotOnePiece { piece }.when(*range != piece)
-    }
-
-    pub(crate) fn begins_a_piece(&self, at: Number) -> Option<Refusal>
-        ensures { result ≡ begins_a_piece self.now.register at }
-    {
-        let piece = self.piece_of(at)?.range;
-        Refusal::NotOnePiece { piece }.when(piece.first() == at.value())
-    }
-
-    pub(crate) fn begins_no_piece(&self, at: Number) -> Option<Refusal>
-        ensures { result ≡ begins_no_piece self.now.register at }
-    {
-        let piece = self.piece_of(at)?.range;
-        Refusal::NotOnePiece { piece }.when(piece.first() != at.value())
-    }
-
-    pub(crate) fn not_available(&self, n: Number) -> Option<Refusal>
-        ensures { result ≡ wrong_status self.now.register n is_available }
-    {
-        let status = self.piece_of(n)?.card.status;
-        Refusal::WrongStatus { status }.when(!status.is_available())
-    }
-
-    pub(crate) fn not_of_status(&self, n: Number, wanted: Status) -> Option<Refusal>
-        ensures { result ≡ wrong_status self.now.register n (is_status wanted) }
-    {
-        let status = self.piece_of(n)?.card.status;
-        Refusal::WrongStatus { status }.when(status != wanted)
-    }
-
-    pub(crate) fn not_delegated(&self, n: Number) -> Option<Refusal>
-        ensures { result ≡ wrong_status self.now.register n is_delegated }
-    {
-        let status = self.piece_of(n)?.card.status;
-        Refusal::WrongStatus { status }.when(!status.is_delegated())
-    }
-
-    pub(crate) fn unknown_holder(&self, handle: &Handle) -> Option<Refusal>
-        ensures { result ≡ unknown_holder self.now.register handle.now }
-    {
-        Refusal::UnknownHolder { handle: *handle }.when(self.holders().by_handle(handle).is_none())
-    }
-
-    /// The number of the holder of the piece that holds the number.
-    #[tactic(auto, using(crate::proofs::Known::holder_known))]
-    fn holder_at(&self, n: Number) -> Option<u32>
-        ensures holder { result ≡ option_and_then (λ p. p.card.holder) (piece_of self.now.register.pool n) }
-        ensures known { IfSome result (λ number. number < length self.now.register.holders) }
+        ensures known { IfSome result (HasKnownHolder self.now.register) }
     {
         self.is_whole();
-        self.piece_of(n)?.card.holder
+        self.pieces().are_pieces();
+        self.pieces().piece_at(n)
     }
 
     /// The handle of the holder with this number.
@@ -111,14 +114,16 @@ impl Board {
         holder.handle
     }
 
-    pub(crate) fn not_holder(&self, range: &Range, handle: &Handle) -> Option<Refusal>
-        ensures { result ≡ not_holder self.now.register range.now handle.now }
+    /// The piece is another holder's than the one of this number.
+    pub(crate) fn not_holder(&self, piece: Option<Piece>, holder: Option<u32>) -> Option<Refusal>
+        requires { IfSome piece (HasKnownHolder self.now.register) }
+        ensures { result ≡ of_other_holder self.now.register holder piece }
     {
-        let number = self.holder_at(range.first_number())?;
+        let number = piece?.card.holder?;
         Refusal::NotHolder {
             holder: self.handle_at(number),
         }
-        .when(self.holders().by_handle(handle) != Some(number))
+        .when(holder != Some(number))
     }
 
     pub(crate) fn handle_taken(&self, handle: &Handle) -> Option<Refusal>
@@ -132,13 +137,5 @@ impl Board {
     {
         let number = self.pieces().overlap(range)?;
         Some(Refusal::Overlap { number })
-    }
-
-    pub(crate) fn cards_differ(&self, at: Number) -> Option<Refusal>
-        ensures { result ≡ cards_differ self.now.register at }
-    {
-        let left = self.piece_of(at.before())?;
-        let right = self.piece_of(at)?;
-        Refusal::CardsDiffer { left: left.range }.when(left.card != right.card)
     }
 }

@@ -2,11 +2,12 @@
 ghost use Rattle.std.specs.Prelude.{◌≡◌, ◌≤◌, IfSome, IfNone};
 ghost use Rattle.num_range.specs.Space.{top_of};
 ghost use Rattle.reg_entry.specs.Decision.{least_outside_unicast, outside_unicast, outside_pool, least_missing};
-ghost use Rattle.reg_entry.specs.Register.{register_pieces};
+ghost use Rattle.reg_entry.specs.Covers.{first_number};
+ghost use Rattle.reg_entry.specs.Register.{register_pieces, piece_of};
 
 use crate::Board;
 use num_range::{Number, Range, Space};
-use reg_entry::Refusal;
+use reg_entry::{Piece, Refusal};
 
 /// 2000::, the first number of global unicast (RFC 4291 2.4).
 const FIRST_UNICAST: u128 = 1 << 125;
@@ -60,9 +61,18 @@ impl Board {
         Some(value)
     }
 
-    pub(crate) fn outside_pool(&self, range: &Range) -> Option<Refusal>
+    /// Why the range isn't in the pool, or nothing, where this is the piece that holds its first number: it is the only one
+    /// that is looked at where it has the whole range.
+    pub(crate) fn outside_pool(&self, range: &Range, piece: Option<Piece>) -> Option<Refusal>
+        requires { piece ≡ piece_of self.now.register.pool (first_number range.now) }
         ensures { result ≡ outside_pool self.now.register range.now }
     {
+        if let Some(piece) = piece {
+            if range.last() <= piece.range.last() {
+                self.pieces().are_pieces();
+                return None;
+            }
+        }
         let value = self.least_missing(range)?;
         let number = Number::of(range.space(), value);
         Some(Refusal::OutsidePool { number })
