@@ -1,17 +1,21 @@
 //! Whether the policy allows a request.
-ghost use Rattle.std.specs.Prelude.{◌≡◌, ◌≤◌, ◌-◌, ◌*◌, ◌/◌, ◌^◌, min, true, IfNone, IfSome};
+ghost use Rattle.std.specs.Prelude.{◌≡◌, ◌+◌, ◌<◌, ◌≤◌, ◌-◌, ◌*◌, ◌/◌, ◌^◌, ◌&&◌, min, nat_eq, nat_lt, not, true, if◌then◌else◌, length, IfNone, IfSome};
+ghost use Rattle.std.specs.Option.{option_and_then, option_eq};
 ghost use Rattle.num_range.specs.Range.{size_of};
+ghost use Rattle.reg_entry.specs.declared.refusal.Refusal.TheVariants.{HolderKind, OverCap, UnderUsed};
 ghost use Rattle.reg_entry.specs.Covers.{first_number};
-ghost use Rattle.reg_entry.specs.Holders.{holder_named};
+ghost use Rattle.reg_entry.specs.Holders.{holder_named, holder_number};
 ghost use Rattle.reg_entry.specs.Policy.{PlainRows, row_in, policy_row, lists_kind, IsRowOf};
 ghost use Rattle.reg_entry.specs.Register.{piece_of};
 ghost use Rattle.reg_entry.specs.Request.{has_size, status_of, IsSizedRequest};
-ghost use Rattle.reg_entry.specs.Decision.{first_of, on_piece, amount_out_of_policy, kind_left_out, over_cap, under_used, delegate_rules, transferred_size, transfer_rules, policy_rules};
+ghost use Rattle.reg_entry.specs.Sums.{held, allocated, used};
+ghost use Rattle.reg_entry.specs.Decision.{first_of, on_piece, refuse_if, amount_out_of_policy, delegate_rules, transfer_rules, policy_rules};
+ghost use Rattle.request_core.specs.Named.{holder_of};
 
 use board::Board;
 use num_range::{Range, Space};
 use policy_table::Policy;
-use reg_entry::{Delegation, Handle, Holder, Kind, Piece, Refusal, Request, Row, Status};
+use reg_entry::{Delegation, Handle, Kind, Piece, Refusal, Request, Row, Status};
 use reg_laws::holdings::holdings_are_bounded;
 use reg_laws::usage::use_is_bounded;
 
@@ -33,33 +37,43 @@ fn lists_kind(row: &Row, kind: Kind) -> bool
     }
 }
 
-/// The holder with this handle.
-#[tactic(auto, using(crate::proofs::Named::number_within, crate::proofs::Named::holder_found, crate::proofs::Named::no_holder))]
-fn holder_named(board: &Board, handle: &Handle) -> Option<Holder>
-    ensures { result ≡ holder_named board.now.register.holders handle.now }
+/// The number of the holder with this handle, looked up once for all that the policy asks of the holder.
+#[tactic(auto, using(crate::proofs::Named::known_if, crate::proofs::Named::named_by_number))]
+fn holder_number(board: &Board, handle: &Handle) -> Option<u32>
+    ensures number { result ≡ holder_number board.now.register.holders handle.now }
+    ensures known { IfSome result (λ number. number < length board.now.register.holders) }
+    ensures named { holder_named board.now.register.holders handle.now ≡ holder_of board.now.register.holders result }
 {
-    let number = board.holders().by_handle(handle)?;
-    let (holder, _) = board.holders().holder(number);
-    Some(holder)
+    board.holders().by_handle(handle)
 }
 
-fn kind_left_out(board: &Board, row: &Row, handle: &Handle) -> Option<Refusal>
-    ensures { result ≡ kind_left_out board.now.register row.now handle.now }
+fn kind_left_out(board: &Board, row: &Row, number: Option<u32>) -> Option<Refusal>
+    requires { IfSome number (λ number. number < length board.now.register.holders) }
+    ensures { result ≡ option_and_then (λ holder. refuse_if (not (lists_kind row.now holder.kind)) (HolderKind holder.kind))
+        (holder_of board.now.register.holders number) }
 {
-    let kind = holder_named(board, handle)?.kind;
+    let (holder, _) = board.holders().holder(number?);
+    let kind = holder.kind;
     Refusal::HolderKind { kind }.when(!lists_kind(row, kind))
 }
 
-/// The holder would hold too many numbers of the space, with so many more.
-fn over_cap(board: &Board, row: &Row, space: Space, handle: &Handle, more: u128) -> Option<Refusal>
+/// The holder of this number would hold too many numbers of the space, with so many more.
+fn over_cap(
+    board: &Board,
+    row: &Row,
+    space: Space,
+    number: Option<u32>,
+    more: u128,
+) -> Option<Refusal>
     requires { more ≤ 2 ^ 126 }
-    ensures { result ≡ over_cap board.now.register row.now space handle.now more }
+    ensures { result ≡ option_and_then
+        (λ number. refuse_if (nat_lt row.now.cap (held board.now.register number space + more)) (OverCap (held board.now.register number space + more) row.now.cap))
+        number }
 {
     // A law: the sum is a number of the type.
     holdings_are_bounded();
     board.is_whole();
-    let number = board.holders().by_handle(handle)?;
-    let held = board.held(number, space) + more;
+    let held = board.held(number?, space) + more;
     let cap = row.cap;
     Refusal::OverCap { held, cap }.when(cap < held)
 }
@@ -74,15 +88,19 @@ fn hundredths(amount: u128, percent: u32) -> u128
     (amount / 100).saturating_mul(percent).saturating_add(rest)
 }
 
-/// Too few of the holder's allocated numbers are sub-assigned.
-fn under_used(board: &Board, row: &Row, space: Space, handle: &Handle) -> Option<Refusal>
-    ensures { result ≡ under_used board.now.register row.now space handle.now }
+/// Too few of the allocated numbers of the holder of this number are sub-assigned.
+fn under_used(board: &Board, row: &Row, space: Space, number: Option<u32>) -> Option<Refusal>
+    ensures { result ≡ option_and_then
+        (λ number. refuse_if
+        (nat_lt 0 (allocated board.now.register number space) && nat_lt (used board.now.register number space) (allocated board.now.register number space * row.now.percent / 100))
+        (UnderUsed (used board.now.register number space) (allocated board.now.register number space)))
+        number }
 {
     // Laws: what is used is less than the greatest number of the type.
     holdings_are_bounded();
     use_is_bounded();
     board.is_whole();
-    let number = board.holders().by_handle(handle)?;
+    let number = number?;
     let used = board.used(number, space);
     let held = board.allocated(number, space);
     Refusal::UnderUsed { used, held }.when(0 < held && used < hundredths(held, row.percent))
@@ -106,11 +124,12 @@ fn row_refusal(
         return amount_refusal;
     }
     let size = space.amount_size(amount);
-    let refusal = kind_left_out(board, row, handle).or_else(|| over_cap(
-        board, row, space, handle, size,
+    let number = holder_number(board, handle);
+    let refusal = kind_left_out(board, row, number).or_else(|| over_cap(
+        board, row, space, number, size,
     ));
     match status {
-        Delegation::Allocate => refusal.or_else(|| under_used(board, row, space, handle)),
+        Delegation::Allocate => refusal.or_else(|| under_used(board, row, space, number)),
         Delegation::Assign => refusal,
     }
 }
@@ -134,13 +153,13 @@ fn piece_of(board: &Board, range: &Range) -> Option<Piece>
     board.piece_of(range.first_number())
 }
 
-/// What a transfer adds to what the new holder holds: nothing, where it holds the piece already.
-fn transferred_size(board: &Board, piece: &Piece, to: &Handle) -> u128
+/// What a transfer to the holder of this number adds to what the holder holds: nothing, where that is the piece's own.
+fn transferred_size(piece: &Piece, number: Option<u32>) -> u128
     requires { size_of piece.now.range ≤ 2 ^ 126 }
-    ensures size { result ≡ transferred_size board.now.register piece.now to.now }
+    ensures size { result ≡ (if option_eq nat_eq piece.now.card.holder number then 0 else size_of piece.now.range) }
     ensures bound { result ≤ 2 ^ 126 }
 {
-    if piece.card.holder == board.holders().by_handle(to) {
+    if piece.card.holder == number {
         0
     } else {
         piece.range.size()
@@ -154,12 +173,12 @@ fn transfer_refusal(board: &Board, policy: &Policy, range: &Range, to: &Handle) 
     let piece = piece_of(board, range)?;
     let space = range.space();
     let row = policy.row(space, delegation_of(piece.card.status));
-    let kind_refusal = kind_left_out(board, &row, to);
+    let number = holder_number(board, to);
+    let kind_refusal = kind_left_out(board, &row, number);
     if kind_refusal.is_some() {
         return kind_refusal;
     }
-    let more = transferred_size(board, &piece, to);
-    over_cap(board, &row, space, to, more)
+    over_cap(board, &row, space, number, transferred_size(&piece, number))
 }
 
 /// What the policy allows of a kind of delegation of a space.
