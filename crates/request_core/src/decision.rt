@@ -39,6 +39,31 @@ fn late_refusal(board: &Board, e: &Entry) -> Option<Refusal>
     board.late_refusal(&e.request, e.day, &e.cover, &e.card)
 }
 
+/// Decides a request against which nothing is said on any day. It is a function of its own, so that a refusal before has no
+/// entry to make room for.
+#[tactic(auto, using(crate::proofs::Refusals::refused_before))]
+fn decide_on_day(board: &Board, policy: &Policy, day: u32, who: &Name, request: &Request) -> Reply
+    requires sized { IsSizedRequest request.now }
+    requires unopposed { option_or (unknown_hostmaster policy.now who.now)
+        (option_or (first_of (early_rules board.now.register request.now)) (first_of (policy_rules board.now.register policy.now request.now))) ≡ None }
+    ensures decision { result ≡ decision board.now.register policy.now day who.now request.now }
+    ensures accepted { refusal_of board.now.register policy.now day who.now request.now ≡ None
+        → result ≡ Accepted (proposed_entry board.now.register policy.now day who.now request.now) }
+    ensures next { IfAccepted result (IsNextEntry board.now.register) }
+    ensures least { IfAccepted result (λ e. IsLeastCover board.now.register e.request e.cover) }
+{
+    let entry = proposed_entry(board, policy, day, who, request);
+    // A law, for `next` and `least`, and what it asks of the board, the policy and the request.
+    accepted_may_come_next();
+    board.is_whole();
+    policy.is_well_formed();
+    request.has_ranges();
+    match late_refusal(board, &entry) {
+        Some(refusal) => Reply::Refused(refusal),
+        None => Reply::Accepted(entry),
+    }
+}
+
 /// Decides a request under a policy, on a day of the clock. What is accepted may come next; where it delegates numbers it
 /// covers the least free block of their size.
 #[tactic(auto, using(crate::proofs::Refusals::refused_before))]
@@ -52,14 +77,5 @@ pub fn decide(board: &Board, policy: &Policy, day: u32, who: &Name, request: &Re
     if let Some(refusal) = first_refusal(board, policy, who, request) {
         return Reply::Refused(refusal);
     }
-    let entry = proposed_entry(board, policy, day, who, request);
-    // A law, for `next` and `least`, and what it asks of the board, the policy and the request.
-    accepted_may_come_next();
-    board.is_whole();
-    policy.is_well_formed();
-    request.has_ranges();
-    match late_refusal(board, &entry) {
-        Some(refusal) => Reply::Refused(refusal),
-        None => Reply::Accepted(entry),
-    }
+    decide_on_day(board, policy, day, who, request)
 }
