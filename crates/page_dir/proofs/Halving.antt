@@ -1,5 +1,5 @@
 -- What one halving costs, and what was read at a place.
-use Rattle.std.proofs.Common.{◌≡◌, ℕ, suc, ◌+◌, ◌-◌, ◌*◌, ◌^◌, ◌<◌, ◌≤◌, Bool, List, Some, length, get_or, ap, sym, pow-suc, ◌∙◌, subst, arith}
+use Rattle.std.proofs.Common.{◌≡◌, ℕ, suc, ◌+◌, ◌-◌, ◌*◌, ◌^◌, ◌<◌, ◌≤◌, Bool, List, length, get_or, ap, sym, pow-suc, ◌∙◌, subst, arith}
 use Rattle.std.specs.List.{slice_get}
 use Rattle.std.specs.Option.{IsSomeAnd}
 use Rattle.std.proofs.lemmas.Nat.{pow-add}
@@ -26,11 +26,6 @@ halved_after initial steps steps' left left' all h e was more less =
 pub read_at : {T : Type 0} (test : T → Bool) (ts : List T) (i : ℕ) (d : T) (b : Bool) → i < length ts → test (get_or ts i d) ≡ b
     → IsSomeAnd (slice_get ts i) (λ x. test x ≡ b)
 read_at test ts i d b h is = subst (λ o. IsSomeAnd o (λ x. test x ≡ b)) (sym (slice_get-get_or ts i d h)) is
-
--- the same of an item that is known to stand there
-pub told_at : {T : Type 0} (test : T → Bool) (ts : List T) (i : ℕ) (t : T) (b : Bool) → slice_get ts i ≡ Some t → test t ≡ b
-    → IsSomeAnd (slice_get ts i) (λ x. test x ≡ b)
-told_at test ts i t b there is = subst (λ o. IsSomeAnd o (λ x. test x ≡ b)) (sym there) is
 
 -- halving pages and then a page
 pub both_halved : (first then last pages page items : ℕ) → first ≤ then → then ≤ last → 2 ^ (then - first) ≤ 2 * pages + 1 → 2 ^ (last - then) ≤ 2 * page + 1

@@ -1,6 +1,7 @@
 mod Checking
 mod Counting
 mod Enough
+mod Firsts
 mod Halving
 mod Joining
 pub mod Looking

@@ -11,7 +11,7 @@ use Rattle.slot_pool.specs.Stack.{times}
 use Rattle.slot_pool.proofs.Places.{held_same, held_other, cell_at_held, none_held, spare_set, spare_vacant}
 use Rattle.slot_pool.proofs.Times.{once, once_same, once_other, times-insert, times-remove, map_absent, map_at, times_at}
 use Rattle.page_dir.specs.Pages.{AreDistinct, page_of, pages_at, or_empty}
-use Rattle.page_dir.specs.Spread.{IsSpread, presence}
+use Rattle.page_dir.specs.Spread.{BeginWith, IsSpread, presence}
 
 presence-le-one : {T : Type 0} (o : Option T) → presence o ≤ 1
 presence-le-one None = omega arith
@@ -34,23 +34,26 @@ page_at pool order i slot page h at there =
     get_or-map (λ s. or_empty (held pool s)) order i slot [] h ∙ ap (λ s. or_empty (held pool s)) (sym at) ∙ ap or_empty there
 
 -- a pool whose pages are all vacant
-pub no_spread : {T : Type 0} (pool : List (Option (List T))) (order : List ℕ) (n a b : ℕ) → pool ≡ replicate n None → order ≡ [] → n ≤ a → 64 ≤ b
-    → IsSpread pool order a b
-no_spread {T} pool order n a b vacant none fits more = rw (vacant, none) (record {
-  each = λ k. sym (ap presence (none_held {T = List T} n k));
-  within = λ k. subst (λ (o : Option (List T)). length (or_empty o) ≤ 64) (sym (none_held {T = List T} n k)) (omega arith);
-  order_room = let e = spare_vacant (List T) n in omega (arith, e, fits);
+pub no_spread : {K V : Type 0} (pool : List (Option (List (K × V)))) (order : List ℕ) (firsts : List K) (n a f b : ℕ) → pool ≡ replicate n None → order ≡ []
+    → firsts ≡ [] → n ≤ a → n ≤ f → 64 ≤ b → IsSpread pool order firsts a f b
+no_spread {K} {V} pool order firsts n a f b vacant none no_firsts fits firsts_fit more = rw (vacant, none, no_firsts) (record {
+  each = λ k. sym (ap presence (none_held {T = List (K × V)} n k));
+  within = λ k. subst (λ (o : Option (List (K × V))). length (or_empty o) ≤ 64) (sym (none_held {T = List (K × V)} n k)) (omega arith);
+  begin = tt;
+  order_room = let e = spare_vacant (List (K × V)) n in omega (arith, e, fits);
+  firsts_room = let e = spare_vacant (List (K × V)) n in omega (arith, e, firsts_fit);
   tail_room = more;
 })
 
-pub slots_differ : {T : Type 0} {pool : List (Option (List T))} {order : List ℕ} {a b : ℕ} → IsSpread pool order a b → AreDistinct order
-slots_differ {T} {pool} s slot = let one = presence-le-one (held pool slot) in omega (arith, s.each slot, one)
+pub slots_differ : {K V : Type 0} {pool : List (Option (List (K × V)))} {order : List ℕ} {firsts : List K} {a f b : ℕ}
+    → IsSpread pool order firsts a f b → AreDistinct order
+slots_differ {K} {V} {pool} s slot = let one = presence-le-one (held pool slot) in omega (arith, s.each slot, one)
 
-pub pages_within : {T : Type 0} {pool : List (Option (List T))} {order : List ℕ} {a b : ℕ} → IsSpread pool order a b
-    → (i : ℕ) → length (page_of (pages_at pool order) i) ≤ 64
-pages_within {T} {pool} {order} s i = elim (cases_lt i (length order)) [
+pub pages_within : {K V : Type 0} {pool : List (Option (List (K × V)))} {order : List ℕ} {firsts : List K} {a f b : ℕ}
+    → IsSpread pool order firsts a f b → (i : ℕ) → length (page_of (pages_at pool order) i) ≤ 64
+pages_within {K} {V} {pool} {order} s i = elim (cases_lt i (length order)) [
   | inl h ↦ subst (λ page. length page ≤ 64) (sym (get_or-map (λ slot. or_empty (held pool slot)) order i 0 [] h)) (s.within (get_or order i 0))
-  | inr h ↦ subst (λ (page : List T). length page ≤ 64) (sym (get_or_past (pages_at pool order) i [] (omega (arith, length-map order (λ slot. or_empty (held pool slot)))))) (omega arith)
+  | inr h ↦ subst (λ (page : List (K × V)). length page ≤ 64) (sym (get_or_past (pages_at pool order) i [] (omega (arith, length-map order (λ slot. or_empty (held pool slot)))))) (omega arith)
 ]
 
 pub map-insert : {X Y : Type 0} (f : X → Y) (xs : List X) (i : ℕ) (x : X) → map f (insert xs i x) ≡ insert (map f xs) i (f x)
@@ -96,32 +99,40 @@ module _ {T : Type 0} (pool : List (Option (List T))) (slot : ℕ) (cell before 
   ]
 
 -- a page in use that changes
-module _ {T : Type 0} (pool : List (Option (List T))) (slot : ℕ) (old new : List T) (live : held pool slot ≡ Some old) where
+module _ {K V : Type 0} (pool : List (Option (List (K × V)))) (slot : ℕ) (old new : List (K × V)) (live : held pool slot ≡ Some old) where
   pub spare_written : spare (set pool slot (Some new)) ≡ spare pool
   spare_written = let e = spare_set pool slot (Some old) (Some new) (cell_at_held pool slot old live) in omega (arith, e)
 
-  pub spread_written : {order : List ℕ} {a b b' : ℕ} → IsSpread pool order a b → length new ≤ 64 → 64 ≤ b' → IsSpread (set pool slot (Some new)) order a b'
-  spread_written s few more =
+  pub written_there : held (set pool slot (Some new)) slot ≡ Some new
+  written_there = cell_there pool slot (Some new) (Some old) (cell_at_held pool slot old live)
+
+  pub spread_written : {order : List ℕ} {firsts : List K} {a f b f' b' : ℕ} (keys : List K) → IsSpread pool order firsts a f b
+      → BeginWith keys (pages_at (set pool slot (Some new)) order) → length new ≤ 64 → f ≤ f' → 64 ≤ b'
+      → IsSpread (set pool slot (Some new)) order keys a f' b'
+  spread_written keys s begin few firsts_more more =
       let spares = spare_written in
       record {
         each = λ k. (let e = presence_after pool slot (Some new) (Some old) (cell_at_held pool slot old live) k in s.each k ∙ omega (arith, e));
         within = small_after pool slot (Some new) (Some old) (cell_at_held pool slot old live) few s.within;
+        begin = begin;
         order_room = omega (arith, spares, s.order_room);
+        firsts_room = omega (arith, spares, s.firsts_room, firsts_more);
         tail_room = more;
       }
 
-  pub pages_written : {order : List ℕ} {a b : ℕ} (i d : ℕ) → IsSpread pool order a b → i < length order → get_or order i d ≡ slot
+  pub pages_written : {order : List ℕ} {firsts : List K} {a f b : ℕ} (i d : ℕ) → IsSpread pool order firsts a f b → i < length order → get_or order i d ≡ slot
       → pages_at (set pool slot (Some new)) order ≡ set (pages_at pool order) i new
   pages_written {order} i d s h at =
       let was = cell_at_held pool slot old live in
       map_at (λ k. or_empty (held (set pool slot (Some new)) k)) (λ k. or_empty (held pool k)) slot (pages_elsewhere pool slot (Some new) (Some old) was) order i d h at (slots_differ s slot)
-      ∙ ap (λ (cell : Option (List T)). set (pages_at pool order) i (or_empty cell)) (cell_there pool slot (Some new) (Some old) was)
+      ∙ ap (λ (cell : Option (List (K × V))). set (pages_at pool order) i (or_empty cell)) (cell_there pool slot (Some new) (Some old) was)
 
 -- a vacant page that comes into use
-module _ {T : Type 0} (pool : List (Option (List T))) (slot : ℕ) (new : List T) (vacant : IsVacant pool slot) where
-  pub spread_added : {order : List ℕ} {a b a' : ℕ} (i : ℕ) → IsSpread pool order a b → length new ≤ 64 → i ≤ length order → a ≤ a'
-      → IsSpread (set pool slot (Some new)) (insert order i slot) a' b
-  spread_added {order} i s few h more =
+module _ {K V : Type 0} (pool : List (Option (List (K × V)))) (slot : ℕ) (new : List (K × V)) (vacant : IsVacant pool slot) where
+  pub spread_added : {order : List ℕ} {firsts : List K} {a f b a' f' : ℕ} (i : ℕ) (keys : List K) → IsSpread pool order firsts a f b
+      → BeginWith keys (pages_at (set pool slot (Some new)) (insert order i slot)) → length new ≤ 64 → i ≤ length order → a ≤ a' → f ≤ f'
+      → IsSpread (set pool slot (Some new)) (insert order i slot) keys a' f' b
+  spread_added {order} i keys s begin few h more firsts_more =
       let longer = length-insert order i slot h in
       let fewer = spare_set pool slot None (Some new) vacant in
       record {
@@ -130,24 +141,27 @@ module _ {T : Type 0} (pool : List (Option (List T))) (slot : ℕ) (new : List T
             let e = presence_after pool slot (Some new) None vacant k in
             omega (arith, ins, e, s.each k));
         within = small_after pool slot (Some new) None vacant few s.within;
+        begin = begin;
         order_room = omega (arith, longer, fewer, s.order_room, more);
+        firsts_room = omega (arith, longer, fewer, s.firsts_room, firsts_more);
         tail_room = s.tail_room;
       }
 
-  pub pages_added : {order : List ℕ} {a b : ℕ} (i : ℕ) → IsSpread pool order a b
+  pub pages_added : {order : List ℕ} {firsts : List K} {a f b : ℕ} (i : ℕ) → IsSpread pool order firsts a f b
       → pages_at (set pool slot (Some new)) (insert order i slot) ≡ insert (pages_at pool order) i new
   pages_added {order} i s =
       let absent : times slot order ≡ 0 = s.each slot ∙ ap presence (cell_before pool slot (Some new) None vacant) in
-      let f : ℕ → List T = λ k. or_empty (held (set pool slot (Some new)) k) in
+      let f : ℕ → List (K × V) = λ k. or_empty (held (set pool slot (Some new)) k) in
       map-insert f order i slot
       ∙ ap (λ pages. insert pages i (f slot)) (map_absent f (λ k. or_empty (held pool k)) slot (pages_elsewhere pool slot (Some new) None vacant) order absent)
-      ∙ ap (λ (cell : Option (List T)). insert (pages_at pool order) i (or_empty cell)) (cell_there pool slot (Some new) None vacant)
+      ∙ ap (λ (cell : Option (List (K × V))). insert (pages_at pool order) i (or_empty cell)) (cell_there pool slot (Some new) None vacant)
 
 -- a page that goes out of use
-module _ {T : Type 0} (pool : List (Option (List T))) (slot : ℕ) (old : List T) (live : held pool slot ≡ Some old) where
-  pub spread_removed : {order : List ℕ} {a b a' : ℕ} (i d : ℕ) → IsSpread pool order a b → i < length order → get_or order i d ≡ slot → a ≤ a'
-      → IsSpread (set pool slot None) (remove order i) a' b
-  spread_removed {order} i d s h at more =
+module _ {K V : Type 0} (pool : List (Option (List (K × V)))) (slot : ℕ) (old : List (K × V)) (live : held pool slot ≡ Some old) where
+  pub spread_removed : {order : List ℕ} {firsts : List K} {a f b a' f' : ℕ} (i d : ℕ) (keys : List K) → IsSpread pool order firsts a f b
+      → BeginWith keys (pages_at (set pool slot None) (remove order i)) → i < length order → get_or order i d ≡ slot → a ≤ a' → f ≤ f'
+      → IsSpread (set pool slot None) (remove order i) keys a' f' b
+  spread_removed {order} i d keys s begin h at more firsts_more =
       let was = cell_at_held pool slot old live in
       let shorter = length-remove order i h in
       let spares = spare_set pool slot (Some old) None was in
@@ -158,11 +172,13 @@ module _ {T : Type 0} (pool : List (Option (List T))) (slot : ℕ) (old : List T
             let e = presence_after pool slot None (Some old) was k in
             omega (arith, rem, is, e, s.each k));
         within = small_after pool slot None (Some old) was (omega arith) s.within;
+        begin = begin;
         order_room = omega (arith, shorter, spares, s.order_room, more);
+        firsts_room = omega (arith, shorter, spares, s.firsts_room, firsts_more);
         tail_room = s.tail_room;
       }
 
-  pub pages_removed : {order : List ℕ} {a b : ℕ} (i d : ℕ) → IsSpread pool order a b → i < length order → get_or order i d ≡ slot
+  pub pages_removed : {order : List ℕ} {firsts : List K} {a f b : ℕ} (i d : ℕ) → IsSpread pool order firsts a f b → i < length order → get_or order i d ≡ slot
       → pages_at (set pool slot None) (remove order i) ≡ remove (pages_at pool order) i
   pages_removed {order} i d s h at =
       let was = cell_at_held pool slot old live in
@@ -173,8 +189,8 @@ module _ {T : Type 0} (pool : List (Option (List T))) (slot : ℕ) (old : List T
       ∙ map-remove (λ k. or_empty (held pool k)) order i
 
 -- a slot in use is a live one
-pub slot_lives : {T : Type 0} (pool : List (Option (List T))) (order : List ℕ) (a b i d : ℕ) → IsSpread pool order a b → i < length order
-    → (page : List T) × (held pool (get_or order i d) ≡ Some page)
-slot_lives pool order a b i d s h =
+pub slot_lives : {K V : Type 0} (pool : List (Option (List (K × V)))) (order : List ℕ) (firsts : List K) (a f b i d : ℕ) → IsSpread pool order firsts a f b → i < length order
+    → (page : List (K × V)) × (held pool (get_or order i d) ≡ Some page)
+slot_lives pool order firsts a f b i d s h =
     let there = times_at order i d h in
     live_present (held pool (get_or order i d)) (let e = s.each (get_or order i d) in omega (arith, e, there))

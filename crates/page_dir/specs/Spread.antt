@@ -1,5 +1,5 @@
 -- Pages that a pool holds: those in use stand in an order, and the others are vacant.
-use Rattle.std.specs.Prelude.{◌≡◌, ℕ, ◌+◌, ◌<◌, ◌≤◌, List, Option, None, Some, length, take}
+use Rattle.std.specs.Prelude.{◌≡◌, ℕ, ◌+◌, ◌<◌, ◌≤◌, List, [], ◌∷◌, Option, None, Some, length, take}
 use Rattle.slot_pool.specs.Cells.{held, spare}
 use Rattle.slot_pool.specs.Stack.{times}
 use Rattle.page_dir.specs.Pages.{HoldsEnough, joined, page_of, pages_at, or_empty}
@@ -17,11 +17,25 @@ abbrev pub presence : {T : Type 0} → Option T → ℕ
 presence None = 0
 presence (Some _) = 1
 
--- one equation for each slot says that the slots in use differ, and are the live ones
-pub record IsSpread {T : Type 0} (pool : List (Option (List T))) (order : List ℕ) (order_cap tail_cap : ℕ) : Type 0 where
+-- the key is that of the page's first pair, where it has one
+abbrev pub BeginsWith : {K V : Type 0} → K → List (K × V) → Type 0
+BeginsWith key [] = Unit {0}
+BeginsWith key (p ∷ ps) = p.0 ≡ key
+
+-- each of the pages begins with its key
+abbrev pub BeginWith : {K V : Type 0} → List K → List (List (K × V)) → Type 0
+BeginWith [] [] = Unit {0}
+BeginWith [] (page ∷ pages) = ⊥
+BeginWith (key ∷ keys) [] = ⊥
+BeginWith (key ∷ keys) (page ∷ pages) = BeginsWith key page × BeginWith keys pages
+
+-- one equation for each slot says that the slots in use differ, and are the live ones; the first keys are those of the pages
+pub record IsSpread {K V : Type 0} (pool : List (Option (List (K × V)))) (order : List ℕ) (firsts : List K) (order_cap firsts_cap tail_cap : ℕ) : Type 0 where
   pub each : (slot : ℕ) → times slot order ≡ presence (held pool slot)
   pub within : (slot : ℕ) → length (or_empty (held pool slot)) ≤ 64
+  pub begin : BeginWith firsts (pages_at pool order)
   pub order_room : length order + spare pool ≤ order_cap
+  pub firsts_room : length order + spare pool ≤ firsts_cap
   pub tail_room : 64 ≤ tail_cap
 
 -- a place in the pages: within a page, or at its end

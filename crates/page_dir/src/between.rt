@@ -9,7 +9,7 @@ use crate::spread::Spread;
 
 /// How many pairs stand from the one key up to the other. Only the lengths of pages are read between the two places.
 pub(crate) fn count_between<K: Ord + Copy, V: Copy>(
-    spread: &Spread<(K, V)>,
+    spread: &Spread<K, V>,
     from: &K,
     until: &K,
 ) -> u32
@@ -27,7 +27,7 @@ pub(crate) fn count_between<K: Ord + Copy, V: Copy>(
 }
 
 /// The lengths of the pages from one up to another, added up.
-fn items_between<T: Copy>(spread: &Spread<T>, first: usize, until: usize) -> usize
+fn items_between<K: Copy, V: Copy>(spread: &Spread<K, V>, first: usize, until: usize) -> usize
     requires order { first ≤ until }
     requires there { until ≤ length (pages_in spread.now) }
     requires small { length (joined (pages_in spread.now)) ≤ 2 ^ 30 }

@@ -17,7 +17,7 @@ use std::sync::ledger::Ledger;
 /// Pairs in the strict order of their keys. Making one takes memory, and nothing after that does.
 #[derive(Drop)]
 pub struct PageDir<K: Ord + Copy, V: Copy> {
-    spread: Spread<(K, V)>,
+    spread: Spread<K, V>,
     carry: Vec<(K, V)>,
     len: u32,
     room: u32,

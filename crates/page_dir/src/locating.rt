@@ -32,7 +32,7 @@ fn stands_before<K: Ord, L: Ledger>(key: &K, limit: &K, side: Side, steps: &mut 
 
 /// How many pages begin before the place.
 fn pages_before<K: Ord + Copy, V: Copy, L: Ledger>(
-    spread: &Spread<(K, V)>,
+    spread: &Spread<K, V>,
     key: &K,
     side: Side,
     steps: &mut Steps<L>,
@@ -48,8 +48,7 @@ fn pages_before<K: Ord + Copy, V: Copy, L: Ledger>(
     let (mut low, mut high) = (0, spread.len());
     while low < high {
         let middle = low + (high - low) / 2;
-        let (first, _) = spread.first(middle);
-        if stands_before(&first, key, side, steps) {
+        if stands_before(spread.first_key(middle), key, side, steps) {
             low = middle + 1;
         } else {
             high = middle;
@@ -76,8 +75,7 @@ fn pairs_before<K: Ord + Copy, V: Copy, L: Ledger>(
     let (mut low, mut high) = (0, page.len());
     while low < high {
         let middle = low + (high - low) / 2;
-        let (here, _) = page[middle];
-        if stands_before(&here, key, side, steps) {
+        if stands_before(&page[middle].0, key, side, steps) {
             low = middle + 1;
         } else {
             high = middle;
@@ -88,7 +86,7 @@ fn pairs_before<K: Ord + Copy, V: Copy, L: Ledger>(
 
 /// The page and the place in it behind all pairs that stand before.
 pub(crate) fn locate<K: Ord + Copy, V: Copy, L: Ledger>(
-    spread: &Spread<(K, V)>,
+    spread: &Spread<K, V>,
     key: &K,
     side: Side,
     steps: &mut Steps<L>,
@@ -112,7 +110,7 @@ pub(crate) fn locate<K: Ord + Copy, V: Copy, L: Ledger>(
 
 /// The place of the first key that is at least this one; nobody counts the comparisons.
 pub(crate) fn place_of<K: Ord + Copy, V: Copy, L: Ledger>(
-    spread: &Spread<(K, V)>,
+    spread: &Spread<K, V>,
     key: &K,
     blank: Blank,
 ) -> (usize, usize)
@@ -129,7 +127,11 @@ pub(crate) fn place_of<K: Ord + Copy, V: Copy, L: Ledger>(
 }
 
 /// The same place, as one of the next page where it is the end of a page.
-pub(crate) fn forward<T: Copy>(spread: &Spread<T>, i: usize, at: usize) -> (usize, usize)
+pub(crate) fn forward<K: Copy, V: Copy>(
+    spread: &Spread<K, V>,
+    i: usize,
+    at: usize,
+) -> (usize, usize)
     requires { IsPlace (pages_in spread.now) i at }
     ensures place { IsPlace (pages_in spread.now) result.0 result.1 }
     ensures same { start (pages_in spread.now) result.0 + result.1 ≡ start (pages_in spread.now) i + at }
@@ -144,7 +146,7 @@ pub(crate) fn forward<T: Copy>(spread: &Spread<T>, i: usize, at: usize) -> (usiz
 }
 
 /// The pair with the first key that is at least this one, by its page and its place there.
-pub(crate) fn first_from<K: Ord + Copy, V: Copy>(spread: &Spread<(K, V)>, key: &K) -> (usize, usize)
+pub(crate) fn first_from<K: Ord + Copy, V: Copy>(spread: &Spread<K, V>, key: &K) -> (usize, usize)
     requires enough { (i : ℕ) → i < length (pages_in spread.now) → HoldsEnough (pages_in spread.now) i }
     requires rises { Rises K.cmp (joined (pages_in spread.now)) }
     ensures place { IsWalk (pages_in spread.now) result.0 result.1 }
@@ -156,7 +158,7 @@ pub(crate) fn first_from<K: Ord + Copy, V: Copy>(spread: &Spread<(K, V)>, key: &
 
 /// The place where a run of so many pairs begins: at the end of a page only where there is nothing in the run.
 pub(crate) fn run_from<K: Ord + Copy, V: Copy>(
-    spread: &Spread<(K, V)>,
+    spread: &Spread<K, V>,
     key: &K,
     n: u32,
 ) -> (usize, usize)

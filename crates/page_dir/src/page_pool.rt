@@ -9,18 +9,12 @@ use slot_pool::{Pool, Slot};
 use std::alloc::{AllocError, Global};
 use std::marker::Model;
 
-/// How many items a page has, and the first of them, so that a search over pages needn't go to their cells.
-#[derive(Clone, Copy)]
-pub(crate) struct Head<T: Copy> {
-    len: usize,
-    first: Option<T>,
-}
-
 /// A pool of pages, each vacant or with at most 64 items, which are named by slots. Their cells are one reservation, which
 /// isn't touched before a page comes into use.
 #[derive(Drop)]
 pub struct PagePool<T: Copy> {
-    heads: Pool<Head<T>>,
+    // How many items each page has.
+    lens: Pool<usize>,
     // Those of the page at a slot are the 64 from 64 times its index on.
     cells: Vec<T>,
 }
@@ -31,9 +25,9 @@ impl<T: Copy> Model for PagePool<T> {
 
     ghost Value = { List (Option (List T)) };
 
-    ghost view = { λ p. pages_of p.cells.items p.heads };
+    ghost view = { λ p. pages_of p.cells.items p.lens };
 
-    ghost invariant = { λ p. IsPagePool p.cells.items p.heads (vec_capacity p.cells) };
+    ghost invariant = { λ p. IsPagePool p.cells.items p.lens (vec_capacity p.cells) };
 }
 
 impl<T: Copy> PagePool<T> {
@@ -42,7 +36,7 @@ impl<T: Copy> PagePool<T> {
         ensures { IfOk result (λ pool. pool ≡ replicate count None) }
     {
         Ok(PagePool {
-            heads: Pool::with_room(alloc, count)?,
+            lens: Pool::with_room(alloc, count)?,
             cells: Vec::with_capacity(alloc, 64 * count as usize)?,
         })
     }
@@ -53,24 +47,16 @@ impl<T: Copy> PagePool<T> {
         ensures items { held self.now slot.now ≡ Some result.now }
         ensures within { length result.now ≤ 64 }
     {
-        let len = self.heads.get(slot).len;
+        let len = *self.lens.get(slot);
         let start = 64 * slot.index();
         &self.cells[start..start + len]
-    }
-
-    /// The first item of a page in use.
-    pub(crate) fn first(&self, slot: &Slot) -> Option<T>
-        requires { IsLive self.now slot.now }
-        ensures { result ≡ slice_get (or_empty (held self.now slot.now)) 0 }
-    {
-        self.heads.get(slot).first
     }
 
     /// How many pages are vacant.
     pub fn spare(&self) -> u32
         ensures { result ≡ spare self.now }
     {
-        self.heads.spare()
+        self.lens.spare()
     }
 
     /// A vacant page comes into use with these items.
@@ -82,11 +68,7 @@ impl<T: Copy> PagePool<T> {
         ensures taken { self.new ≡ slice_set self.old result (Some new.now) }
         ensures count { spare self.new + 1 ≡ spare self.old }
     {
-        let head = Head {
-            len: new.len(),
-            first: Some(new[0]),
-        };
-        let slot = match self.heads.take(head) {
+        let slot = match self.lens.take(new.len()) {
             Ok(slot) => slot,
             Err(_) => unreachable!(),
         };
@@ -102,7 +84,7 @@ impl<T: Copy> PagePool<T> {
         ensures given { self.new ≡ slice_set self.old slot.now None }
         ensures count { spare self.new ≡ spare self.old + 1 }
     {
-        self.heads.give(slot);
+        self.lens.give(slot);
     }
 
     /// So many items of a page go from a place on, and the new ones come there. The tail is room to work in.
@@ -114,42 +96,12 @@ impl<T: Copy> PagePool<T> {
         ensures page { self.new ≡ slice_set self.old slot.now (Some (spliced at n new.now (or_empty (held self.old slot.now)))) }
         ensures tail { 64 ≤ vec_capacity tail.new }
     {
-        let head = self.heads.get_mut(slot);
+        let held = self.lens.get_mut(slot);
         let start = 64 * slot.index();
-        let len = head.len - n + new.len();
-        splice(&mut self.cells, start, head.len, at, n, new, tail);
-        head.first = first_after(&self.cells, start, len, at, head.first);
-        head.len = len;
+        let len = *held - n + new.len();
+        splice(&mut self.cells, start, *held, at, n, new, tail);
+        *held = len;
     }
-}
-
-/// The first of so many cells, which was the first before they changed from a place on.
-fn first_after<T: Copy>(
-    cells: &[T],
-    start: usize,
-    len: usize,
-    at: usize,
-    first: Option<T>,
-) -> Option<T>
-    requires within { start + len ≤ length cells.now }
-    requires first { 0 < at → first ≡ slice_get (region cells.now start len) 0 }
-    ensures { result ≡ slice_get (region cells.now start len) 0 }
-{
-    if at == 0 {
-        return first_of(cells, start, len);
-    }
-    first
-}
-
-/// The first of so many cells.
-fn first_of<T: Copy>(cells: &[T], start: usize, len: usize) -> Option<T>
-    requires { start + len ≤ length cells.now }
-    ensures { result ≡ slice_get (region cells.now start len) 0 }
-{
-    if len == 0 {
-        return None;
-    }
-    Some(cells[start])
 }
 
 /// Makes the cells so many where they are fewer.

@@ -1,5 +1,5 @@
 //! A splice of the items of pages.
-ghost use Rattle.std.specs.Prelude.{◌≡◌, ℕ, ◌+◌, ◌-◌, ◌^◌, ◌<◌, ◌≤◌, length, take, drop, vec_capacity};
+ghost use Rattle.std.specs.Prelude.{◌≡◌, ℕ, ◌+◌, ◌-◌, ◌^◌, ◌<◌, ◌≤◌, [], length, take, drop, vec_capacity};
 ghost use Rattle.page_dir.specs.Pages.{HoldsEnough, joined, page_of};
 ghost use Rattle.page_dir.specs.Splices.{spliced};
 ghost use Rattle.page_dir.specs.Spread.{AreTidy, IsPlace, pages_in, start};
@@ -10,13 +10,13 @@ use crate::tidying::tidy;
 
 /// So many items from a place on go, and the new ones come there. Where the run lies in one page and fits, only what is
 /// behind it in that page moves.
-pub(crate) fn replace<T: Copy>(
-    spread: &mut Spread<T>,
-    carry: &mut Vec<T>,
+pub(crate) fn replace<K: Copy, V: Copy>(
+    spread: &mut Spread<K, V>,
+    carry: &mut Vec<(K, V)>,
     i: usize,
     at: usize,
     n: usize,
-    new: &[T],
+    new: &[(K, V)],
 )
     requires place { IsPlace (pages_in spread.old) i at }
     requires there { start (pages_in spread.old) i + at + n ≤ length (joined (pages_in spread.old)) }
@@ -53,7 +53,12 @@ pub(crate) fn replace<T: Copy>(
 }
 
 /// Parts a page in two at a place, unless a page begins there, and says which page begins there then.
-fn part<T: Copy>(spread: &mut Spread<T>, carry: &mut Vec<T>, i: usize, at: usize) -> usize
+fn part<K: Copy, V: Copy>(
+    spread: &mut Spread<K, V>,
+    carry: &mut Vec<(K, V)>,
+    i: usize,
+    at: usize,
+) -> usize
     requires place { IsPlace (pages_in spread.old) i at }
     requires enough { (k : ℕ) → k < length (pages_in spread.old) → HoldsEnough (pages_in spread.old) k }
     requires spare { 0 < spread.old.spare }
@@ -77,13 +82,13 @@ fn part<T: Copy>(spread: &mut Spread<T>, carry: &mut Vec<T>, i: usize, at: usize
     }
     carry.clear();
     append(carry, &page[at..]);
-    spread.splice(i, at, len - at, &[]);
+    spread.splice(i, at, len - at, no_items());
     spread.add(i + 1, carry);
     i + 1
 }
 
 /// Takes so many items away, from a page on.
-fn cut<T: Copy>(spread: &mut Spread<T>, i: usize, n: usize)
+fn cut<K: Copy, V: Copy>(spread: &mut Spread<K, V>, i: usize, n: usize)
     requires there { i ≤ length (pages_in spread.old) }
     requires enough { n ≤ length (joined (drop i (pages_in spread.old))) }
     requires tidy { AreTidy (pages_in spread.old) (i - 1) (i + 2) }
@@ -101,8 +106,14 @@ fn cut<T: Copy>(spread: &mut Spread<T>, i: usize, n: usize)
             spread.remove(i);
             left -= here;
         } else {
-            spread.splice(i, 0, left, &[]);
+            spread.splice(i, 0, left, no_items());
             left = 0;
         }
     }
+}
+
+fn no_items<'a, T: Copy>() -> &'a [T]
+    ensures { result.now ≡ [] }
+{
+    &[]
 }

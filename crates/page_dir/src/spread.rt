@@ -1,48 +1,52 @@
-ghost use Rattle.std.specs.Prelude.{◌≡◌, ℕ, ◌+◌, ◌<◌, ◌≤◌, [], Some, length, IfOk, slice_set};
-ghost use Rattle.std.specs.List.{insert, remove, slice_get};
+ghost use Rattle.std.specs.Prelude.{◌≡◌, ℕ, ◌+◌, ◌<◌, ◌≤◌, [], length, vec_capacity, IfOk, slice_set};
+ghost use Rattle.std.specs.List.{insert, remove};
 ghost use Rattle.page_dir.specs.Pages.{AreDistinct, page_of};
 ghost use Rattle.page_dir.specs.Splices.{spliced};
-ghost use Rattle.page_dir.specs.Spread.{pages_in};
+ghost use Rattle.page_dir.specs.Spread.{BeginsWith, pages_in};
 
 use crate::PagePool;
 use slot_pool::Slot;
 use std::alloc::{AllocError, Global};
 use std::marker::Model;
 
-/// Pages of which some are in use, one after another, and the others are vacant. A pool holds them all from the start.
+/// Pages of pairs, of which some are in use, one after another, and the others are vacant. A pool holds them all from the
+/// start.
 #[derive(Drop)]
-pub(crate) struct Spread<T: Copy> {
-    pool: PagePool<T>,
+pub(crate) struct Spread<K: Copy, V: Copy> {
+    pool: PagePool<(K, V)>,
     order: Vec<Slot>,
-    tail: Vec<T>,
+    // The first key of each page in use that has a pair, so that a search over pages reads keys alone, in a row.
+    firsts: Vec<K>,
+    tail: Vec<(K, V)>,
 }
 
-impl<T: Copy> Model for Spread<T> {
+impl<K: Copy, V: Copy> Model for Spread<K, V> {
     ghost use Rattle.std.specs.Prelude.{vec_capacity};
     ghost use Rattle.slot_pool.specs.Cells.{spare};
     ghost use Rattle.page_dir.specs.Spread.{IsSpread, PlainSpread};
 
-    ghost Value = { PlainSpread T };
+    ghost Value = { PlainSpread (K × V) };
 
     ghost view = { λ s. record { pool = s.pool; order = s.order.items; spare = spare s.pool } };
 
-    ghost invariant = { λ s. IsSpread s.pool s.order.items (vec_capacity s.order) (vec_capacity s.tail) };
+    ghost invariant = { λ s. IsSpread s.pool s.order.items s.firsts.items (vec_capacity s.order) (vec_capacity s.firsts) (vec_capacity s.tail) };
 }
 
-impl<T: Copy> Spread<T> {
+impl<K: Copy, V: Copy> Spread<K, V> {
     /// So many pages, all of them vacant.
-    pub(crate) fn with_pages(alloc: Global, count: u32) -> Result<Spread<T>, AllocError>
+    pub(crate) fn with_pages(alloc: Global, count: u32) -> Result<Spread<K, V>, AllocError>
         ensures order { IfOk result (λ spread. spread.order ≡ []) }
         ensures spare { IfOk result (λ spread. spread.spare ≡ count) }
     {
         Ok(Spread {
             pool: PagePool::with_room(alloc, count)?,
             order: Vec::with_capacity(alloc, count as usize)?,
+            firsts: Vec::with_capacity(alloc, count as usize)?,
             tail: Vec::with_capacity(alloc, 64)?,
         })
     }
 
-    pub(crate) fn pool(&self) -> &PagePool<T>
+    pub(crate) fn pool(&self) -> &PagePool<(K, V)>
         ensures { result.now ≡ self.now.pool }
     {
         &self.pool
@@ -63,7 +67,7 @@ impl<T: Copy> Spread<T> {
     }
 
     /// The items of a page in use.
-    pub(crate) fn page(&self, i: usize) -> &[T]
+    pub(crate) fn page(&self, i: usize) -> &[(K, V)]
         requires { i < length (pages_in self.now) }
         ensures items { result.now ≡ page_of (pages_in self.now) i }
         ensures within { length result.now ≤ 64 }
@@ -71,16 +75,12 @@ impl<T: Copy> Spread<T> {
         self.pool.page(&self.order[i])
     }
 
-    /// The first item of a page in use that has one.
-    pub(crate) fn first(&self, i: usize) -> T
-        requires page { i < length (pages_in self.now) }
-        requires filled { 0 < length (page_of (pages_in self.now) i) }
-        ensures { slice_get (page_of (pages_in self.now) i) 0 ≡ Some result }
+    /// The key with which a page in use begins, where it has a pair.
+    pub(crate) fn first_key(&self, i: usize) -> &K
+        requires { i < length (pages_in self.now) }
+        ensures { BeginsWith result.now (page_of (pages_in self.now) i) }
     {
-        match self.pool.first(&self.order[i]) {
-            None => unreachable!(),
-            Some(first) => first,
-        }
+        &self.firsts[i]
     }
 
     /// Each page has at most 64 items.
@@ -91,18 +91,20 @@ impl<T: Copy> Spread<T> {
     }
 
     /// So many items of a page go, and the new ones come there.
-    pub(crate) fn splice(&mut self, i: usize, at: usize, n: usize, new: &[T])
+    pub(crate) fn splice(&mut self, i: usize, at: usize, n: usize, new: &[(K, V)])
         requires page { i < length (pages_in self.old) }
         requires there { at + n ≤ length (page_of (pages_in self.old) i) }
         requires fits { length (page_of (pages_in self.old) i) + length new.now ≤ 64 + n }
         ensures pages { pages_in self.new ≡ slice_set (pages_in self.old) i (spliced at n new.now (page_of (pages_in self.old) i)) }
         ensures spare { self.new.spare ≡ self.old.spare }
     {
-        self.pool.splice(&self.order[i], at, n, new, &mut self.tail);
+        let slot = self.order[i];
+        self.pool.splice(&slot, at, n, new, &mut self.tail);
+        self.firsts[i] = first_key(self.pool.page(&slot), self.firsts[i]);
     }
 
     /// A vacant page comes into use with these items.
-    pub(crate) fn add(&mut self, i: usize, new: &[T])
+    pub(crate) fn add(&mut self, i: usize, new: &[(K, V)])
         requires spare { 0 < self.old.spare }
         requires place { i ≤ length (pages_in self.old) }
         requires some { 0 < length new.now }
@@ -111,10 +113,8 @@ impl<T: Copy> Spread<T> {
         ensures spare { self.new.spare + 1 ≡ self.old.spare }
     {
         let slot = self.pool.take(new);
-        match self.order.insert(i, slot) {
-            Ok(()) => {}
-            Err(_) => unreachable!(),
-        }
+        insert(&mut self.order, i, slot);
+        insert(&mut self.firsts, i, new[0].0);
     }
 
     /// A page goes out of use, with all that it has.
@@ -123,7 +123,31 @@ impl<T: Copy> Spread<T> {
         ensures pages { pages_in self.new ≡ remove (pages_in self.old) i }
         ensures spare { self.new.spare ≡ self.old.spare + 1 }
     {
+        self.firsts.remove(i);
         let slot = self.order.remove(i);
         self.pool.give(&slot);
+    }
+}
+
+/// The key with which the page begins, or this one where it has no pair.
+fn first_key<K: Copy, V: Copy>(page: &[(K, V)], other: K) -> K
+    ensures { BeginsWith result page.now }
+{
+    match page {
+        [(key, _), ..] => *key,
+        [] => other,
+    }
+}
+
+/// Puts an item before a place, for which there is room.
+fn insert<T: Copy>(items: &mut Vec<T>, i: usize, item: T)
+    requires place { i ≤ length items.old.items }
+    requires room { length items.old.items < vec_capacity items.old }
+    ensures items { items.new.items ≡ insert items.old.items i item }
+    ensures room { vec_capacity items.old ≤ vec_capacity items.new }
+{
+    match items.insert(i, item) {
+        Ok(()) => {}
+        Err(_) => unreachable!(),
     }
 }

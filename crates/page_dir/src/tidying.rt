@@ -7,7 +7,12 @@ use crate::page_pool::append;
 use crate::spread::Spread;
 
 /// Tidies the pages from one place to another. Those before and behind hold enough already.
-pub(crate) fn tidy<T: Copy>(spread: &mut Spread<T>, carry: &mut Vec<T>, first: usize, until: usize)
+pub(crate) fn tidy<K: Copy, V: Copy>(
+    spread: &mut Spread<K, V>,
+    carry: &mut Vec<(K, V)>,
+    first: usize,
+    until: usize,
+)
     requires tidy { AreTidy (pages_in spread.old) first until }
     requires carry { 64 ≤ vec_capacity carry.old }
     ensures joined { joined (pages_in spread.new) ≡ joined (pages_in spread.old) }
@@ -25,7 +30,7 @@ pub(crate) fn tidy<T: Copy>(spread: &mut Spread<T>, carry: &mut Vec<T>, first: u
 
 /// Takes a page out of use that has nothing, or no more than 64 with the page before it, which then has its items too.
 /// Says whether it did.
-fn settle<T: Copy>(spread: &mut Spread<T>, carry: &mut Vec<T>, i: usize) -> bool
+fn settle<K: Copy, V: Copy>(spread: &mut Spread<K, V>, carry: &mut Vec<(K, V)>, i: usize) -> bool
     requires there { i < length (pages_in spread.old) }
     requires carry { 64 ≤ vec_capacity carry.old }
     ensures joined { joined (pages_in spread.new) ≡ joined (pages_in spread.old) }

@@ -8,7 +8,7 @@ use std::marker::Model;
 /// Goes over pairs, rising.
 #[derive(Drop)]
 pub struct PageWalk<'a, K: Copy, V: Copy> {
-    spread: &'a Spread<(K, V)>,
+    spread: &'a Spread<K, V>,
     page: usize,
     at: usize,
 }
@@ -26,7 +26,7 @@ impl<'a, K: Copy, V: Copy> Model for PageWalk<'a, K, V> {
 }
 
 impl<K: Copy, V: Copy> PageWalk<'_, K, V> {
-    pub(crate) fn over(spread: &Spread<(K, V)>, page: usize, at: usize) -> PageWalk<'_, K, V>
+    pub(crate) fn over(spread: &Spread<K, V>, page: usize, at: usize) -> PageWalk<'_, K, V>
         requires { IsWalk (pages_in spread.now) page at }
         ensures { result ≡ drop (start (pages_in spread.now) page + at) (joined (pages_in spread.now)) }
     {

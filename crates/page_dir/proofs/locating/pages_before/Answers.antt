@@ -2,7 +2,8 @@ use Rattle.std.proofs.Common.{◌≡◌, ◌+◌, ◌-◌, ◌/◌, length, arit
 use Rattle.page_dir.specs.Pages.{page_of}
 use Rattle.page_dir.specs.Spread.{pages_in}
 use Rattle.page_dir.specs.Searching.{PassesAt, stands_before}
-use Rattle.page_dir.proofs.Halving.{halved_after, told_at}
+use Rattle.page_dir.proofs.Firsts.{told_first}
+use Rattle.page_dir.proofs.Halving.{halved_after}
 use Rattle.page_dir.proofs.locating.pages_before.Goals as goal
 
 pub loop-low-preserved-then-stands_before : goal.loop-low-preserved-then-stands_before
@@ -15,7 +16,7 @@ loop-low-preserved-then-stands_before g c =
     let page = page_of ps middle in
     record {
       below = λ _. subst (λ i. PassesAt (λ p. stands_before g.K.Ord.cmp c.args.side c.args.key.now p.0) (page_of ps i) 0) (let e : middle ≡ middle + 1 - 1 = omega arith in e)
-          (told_at (λ p. stands_before g.K.Ord.cmp c.args.side c.args.key.now p.0) page 0 c.first-first.result true c.first-first.ensures (sym c.if-stands_before.ensures.before));
+          (told_first (λ k. stands_before g.K.Ord.cmp c.args.side c.args.key.now k) c.first_key.result.now page true c.first_key.ensures (c.requires middle (omega arith)) (sym c.if-stands_before.ensures.before));
       above = kept.above;
       order = omega arith;
       within = kept.within;
@@ -34,7 +35,7 @@ loop-low-preserved g c =
     let page = page_of ps middle in
     record {
       below = kept.below;
-      above = λ _. told_at (λ p. stands_before g.K.Ord.cmp c.args.side c.args.key.now p.0) page 0 c.first-first.result false c.first-first.ensures (sym c.if-stands_before.ensures.before);
+      above = λ _. told_first (λ k. stands_before g.K.Ord.cmp c.args.side c.args.key.now k) c.first_key.result.now page false c.first_key.ensures (c.requires middle (omega arith)) (sym c.if-stands_before.ensures.before);
       order = omega arith;
       within = omega (arith, kept.within);
       counted = omega (arith, kept.counted, c.stands_before.ensures.counted);

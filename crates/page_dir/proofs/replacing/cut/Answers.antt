@@ -1,4 +1,4 @@
-use Rattle.std.proofs.Common.{◌≡◌, ◌+◌, ◌-◌, ◌∙◌, [], length, arith, ap, drop, take, length-set}
+use Rattle.std.proofs.Common.{◌≡◌, ◌+◌, ◌-◌, ◌∙◌, [], length, arith, ap, drop, take, length-set, set}
 use Rattle.std.specs.List.{remove}
 use Rattle.std.proofs.lemmas.List.{take-set-le}
 use Rattle.std.proofs.lemmas.List.Edits.{length-remove}
@@ -44,14 +44,16 @@ loop-left-preserved g c =
     let ps = pages_in c.loop-left.spread in
     let there = cut_inside ps c.args.i c.loop-left.left (omega arith) kept.enough in
     let page = spliced 0 c.loop-left.left [] (page_of ps c.args.i) in
-    let is : length (pages_in c.splice.new.self) ≡ length ps = ap length c.splice.ensures.pages ∙ length-set ps c.args.i page in
+    let written : pages_in c.splice.new.self ≡ set ps c.args.i page =
+    c.splice.ensures.pages ∙ ap (λ none. set ps c.args.i (spliced 0 c.loop-left.left none (page_of ps c.args.i))) c.no_items.ensures in
+    let is : length (pages_in c.splice.new.self) ≡ length ps = ap length written ∙ length-set ps c.args.i page in
     let here : length c.page-here.result.now ≡ length (page_of ps c.args.i) = ap length c.page-here.ensures.items in
     record {
       there = omega (arith, is);
-      front = ap (take c.args.i) c.splice.ensures.pages ∙ take-set-le c.args.i ps c.args.i page (omega arith) ∙ kept.front;
-      rest = ap (λ qs. joined (drop c.args.i qs)) c.splice.ensures.pages ∙ cut_spliced ps c.args.i c.loop-left.left there (omega (arith, here)) ∙ kept.rest;
+      front = ap (take c.args.i) written ∙ take-set-le c.args.i ps c.args.i page (omega arith) ∙ kept.front;
+      rest = ap (λ qs. joined (drop c.args.i qs)) written ∙ cut_spliced ps c.args.i c.loop-left.left there (omega (arith, here)) ∙ kept.rest;
       enough = omega arith;
       count = omega (arith, kept.count, is, c.splice.ensures.spare);
       spare = omega (arith, kept.spare, c.splice.ensures.spare);
-      tidy = rw c.splice.ensures.pages (tidy-set ps (c.args.i - 1) (c.args.i + 2) c.args.i page (omega arith) (omega arith) kept.tidy);
+      tidy = rw written (tidy-set ps (c.args.i - 1) (c.args.i + 2) c.args.i page (omega arith) (omega arith) kept.tidy);
     }

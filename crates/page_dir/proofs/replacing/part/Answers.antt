@@ -1,5 +1,7 @@
-use Rattle.std.proofs.Common.{◌-◌, ◌<◌, ◌∙◌, ◌++◌, length, arith, ap, drop, take}
+use Rattle.std.proofs.Common.{◌-◌, ◌<◌, ◌∙◌, ◌++◌, length, arith, ap, drop, set, take}
 use Rattle.std.proofs.lemmas.List.{take_rest}
+use Rattle.page_dir.specs.Pages.{page_of}
+use Rattle.page_dir.specs.Splices.{spliced}
 use Rattle.page_dir.specs.Spread.{pages_in}
 use Rattle.page_dir.proofs.Enough.{place_inside, tidy-parted}
 use Rattle.page_dir.proofs.Joining.{parted_joined}
@@ -13,7 +15,10 @@ returns-clause-joined g c =
     let back = c.deref.ensures.value ∙ c.append.ensures.items ∙ ap (λ xs. xs ++ take (length page - c.args.at) (drop c.args.at page)) c.clear.ensures.items
     ∙ take_rest page c.args.at ∙ ap (drop c.args.at) c.page-page.ensures.items in
     parted_joined (pages_in c.args.spread.now) (pages_in c.splice.new.self) (pages_in c.add.new.self) c.args.i c.args.at (length page - c.args.at)
-    c.deref.result.now there (omega (arith, len, c.requires.place.within)) back c.splice.ensures.pages c.add.ensures.pages
+    c.deref.result.now there (omega (arith, len, c.requires.place.within)) back
+    (c.splice.ensures.pages
+    ∙ ap (λ none. set (pages_in c.args.spread.now) c.args.i (spliced c.args.at (length page - c.args.at) none (page_of (pages_in c.args.spread.now) c.args.i))) c.no_items.ensures)
+    c.add.ensures.pages
 
 pub returns-clause-tidy : goal.returns-clause-tidy
 returns-clause-tidy g c =

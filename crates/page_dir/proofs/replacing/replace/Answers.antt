@@ -3,7 +3,7 @@ use Rattle.std.specs.List.{insert}
 use Rattle.page_dir.specs.Pages.{joined, page_of}
 use Rattle.page_dir.specs.Splices.{spliced}
 use Rattle.page_dir.specs.Spread.{AreTidy, pages_in, start}
-use Rattle.page_dir.proofs.Enough.{enough_grown, tidy-inserted}
+use Rattle.page_dir.proofs.Enough.{enough_grown, tidy-inserted, tidy-set}
 use Rattle.page_dir.proofs.Joining.{joined-insert_empty, joined-replaced, joined-spliced, joined-split}
 use Rattle.page_dir.proofs.Splicing.{length-spliced}
 use Rattle.std.proofs.lemmas.Bool.{eqb-true}
@@ -39,6 +39,12 @@ cut-requires-clause-enough g c =
     let whole = ap length (joined-split ps r ∙ c.part-i.ensures.joined) in
     let sum = length-append (joined (take r ps)) (joined (drop r ps)) in
     omega (arith, whole, sum, c.part-i.ensures.place, c.requires.there)
+
+pub tidy-requires-clause-tidy : goal.tidy-requires-clause-tidy
+tidy-requires-clause-tidy g c =
+    let ps = pages_in c.args.spread.now in
+    rw c.splice.ensures.pages (tidy-set ps c.args.i (c.args.i + 2) c.args.i (spliced c.args.at c.args.n c.args.new.now (page_of ps c.args.i)) (omega arith) (omega arith)
+    (record { below = λ k h. c.requires.enough k (omega arith); above = λ k h within. c.requires.enough k within }))
 
 pub tidy-requires-2-clause-tidy : goal.tidy-requires-2-clause-tidy
 tidy-requires-2-clause-tidy g c =
