@@ -234,7 +234,7 @@ fn holder_named(holders: &HolderBook, handle: &Handle) -> Option<(Holder, u32)>
     ensures { result ≡ find (has_handle handle.now) holders.now.holders }
 {
     match holders.by_handle(handle) {
-        Some(number) => Some(holders.holder(number)),
+        Some(number) => Some(*holders.holder(number)),
         None => None,
     }
 }

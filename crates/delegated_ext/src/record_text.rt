@@ -90,7 +90,7 @@ fn holder_of(holders: &HolderBook, card: &Card) -> Option<(Holder, u32)>
     }
     let number = card.holder?;
     if number < holders.len() {
-        Some(holders.holder(number))
+        Some(*holders.holder(number))
     } else {
         None
     }

@@ -1,8 +1,15 @@
-ghost use Rattle.std.specs.Prelude.{◌≡◌, ◌^◌, ◌<◌, ◌≤◌, [], None, Some, length, slice_get, IfOk};
+ghost use Rattle.std.specs.Prelude.{◌≡◌, ◌^◌, ◌<◌, ◌≤◌, false, [], ◌∷◌, None, Some, length, slice_get, IfOk};
+ghost use Rattle.std.specs.List.{All};
+ghost use Rattle.std.specs.Ordering.{nat_cmp};
+ghost use Rattle.std.specs.Cmp.Lexicographic.{slice_cmp};
+ghost use Rattle.std.specs.Str.{bytes_eq};
+ghost use Rattle.page_dir.specs.Sorted.{Rises, rank};
+ghost use Rattle.page_dir.specs.Splices.{spliced};
 ghost use Rattle.reg_entry.specs.Holders.{holder_number, added_holder, edited_holder, HaveDistinctHandles};
 
-use crate::index::{enter, place};
 use crate::numbered::Numbered;
+use page_dir::PageDir;
+use page_dir::laws::{ranks_are_places, splices_rise};
 use reg_entry::{Handle, Holder};
 use std::alloc::{AllocError, Global};
 use std::marker::Model;
@@ -12,12 +19,11 @@ use std::marker::Model;
 #[derive(Drop)]
 pub struct HolderBook {
     holders: Numbered,
-    // Their numbers in the order of their handles.
-    by_handle: Vec<u32>,
+    // Their numbers under their handles.
+    numbers: PageDir<Handle, u32>,
 }
 
 impl Model for HolderBook {
-    ghost use Rattle.std.specs.Prelude.{vec_capacity};
     ghost use Rattle.holder_book.specs.Book.{PlainHolderBook};
     ghost use Rattle.holder_book.specs.Kept.{IsHolderBook};
 
@@ -25,7 +31,7 @@ impl Model for HolderBook {
 
     ghost view = { λ b. b.holders };
 
-    ghost invariant = { λ b. IsHolderBook b.holders.holders b.by_handle.items b.holders.room (vec_capacity b.by_handle) };
+    ghost invariant = { λ b. IsHolderBook b.holders.holders b.numbers.pairs b.holders.room b.numbers.room };
 }
 
 impl HolderBook {
@@ -37,7 +43,7 @@ impl HolderBook {
     {
         Ok(HolderBook {
             holders: Numbered::with_room(alloc, room)?,
-            by_handle: Vec::with_capacity(alloc, room as usize)?,
+            numbers: PageDir::with_room(alloc, room)?,
         })
     }
 
@@ -64,20 +70,17 @@ impl HolderBook {
         ensures number { result ≡ holder_number self.now.holders handle.now }
         ensures distinct { HaveDistinctHandles self.now.holders }
     {
-        match place(&self.holders, &self.by_handle, handle) {
-            Ok(i) => Some(self.by_handle[i]),
-            Err(_) => None,
-        }
+        let (found, number) = self.numbers.from(handle)?;
+        if found == *handle { Some(number) } else { None }
     }
 
     /// The holder with this number, with the day on which its fields were last given.
-    pub fn holder(&self, number: u32) -> (Holder, u32)
+    pub fn holder(&self, number: u32) -> &(Holder, u32)
         requires { number < length self.now.holders }
-        ensures holder { slice_get self.now.holders number ≡ Some result }
+        ensures holder { slice_get self.now.holders number ≡ Some result.now }
         ensures distinct { HaveDistinctHandles self.now.holders }
     {
-        let (holder, day) = self.holders.get(number);
-        (*holder, *day)
+        self.holders.get(number)
     }
 
     /// Adds a holder under the next number, and gives that.
@@ -90,7 +93,7 @@ impl HolderBook {
         ensures distinct { HaveDistinctHandles self.new.holders }
     {
         let number = self.holders.len();
-        enter(&self.holders, &mut self.by_handle, &holder.handle, number);
+        enter(&mut self.numbers, &holder.handle, number);
         self.holders.push(holder, day);
         number
     }
@@ -104,4 +107,19 @@ impl HolderBook {
     {
         self.holders.set(number, holder, day);
     }
+}
+
+/// Puts a number under a handle that has none.
+fn enter(numbers: &mut PageDir<Handle, u32>, handle: &Handle, number: u32)
+    requires rises { Rises (slice_cmp nat_cmp) numbers.old.pairs }
+    requires absent { All (λ p. bytes_eq p.0 handle.now ≡ false) numbers.old.pairs }
+    requires room { length numbers.old.pairs < numbers.old.room }
+    ensures pairs { numbers.new.pairs ≡ spliced (rank (slice_cmp nat_cmp) handle.now numbers.old.pairs) 0 ((handle.now, number) ∷ []) numbers.old.pairs }
+    ensures rises { Rises (slice_cmp nat_cmp) numbers.new.pairs }
+    ensures room { numbers.new.room ≡ numbers.old.room }
+{
+    // Laws: the handles still rise, with the new one at its place.
+    splices_rise::<Handle, u32>();
+    ranks_are_places::<Handle, u32>();
+    numbers.replace_run(handle, 0, &[(*handle, number)]);
 }

@@ -2,7 +2,6 @@
 #![tactic(auto)]
 
 mod book;
-mod index;
 mod numbered;
 #[cfg(test)]
 mod tests;

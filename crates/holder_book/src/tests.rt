@@ -40,7 +40,7 @@ fn stands(book: &HolderBook, number: u32, handle: &[u8], name: &[u8], day: u32) 
         return false;
     }
     let (holder, given) = book.holder(number);
-    holder.handle.bytes() == handle && holder.name.bytes() == name && given == day
+    holder.handle.bytes() == handle && holder.name.bytes() == name && *given == day
 }
 
 #[test]
@@ -141,7 +141,7 @@ fn step(
 }
 
 fn has(book: &HolderBook, number: u32, held: &(Holder, u32)) -> bool {
-    number < book.len() && book.holder(number) == *held
+    number < book.len() && book.holder(number) == held
 }
 
 #[test]

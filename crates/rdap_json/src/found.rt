@@ -28,7 +28,7 @@ fn facts(board: &Board, found: &Found) -> Option<NetFacts>
 {
     match found {
         Found::Piece(piece) => {
-            let (holder, _) = board.holders().holder(piece.card.holder?);
+            let (holder, _) = *board.holders().holder(piece.card.holder?);
             Some(NetFacts {
                 range: piece.range,
                 kind: kind_of(piece.card.status),
@@ -42,7 +42,7 @@ fn facts(board: &Board, found: &Found) -> Option<NetFacts>
             card,
             parent,
         } => {
-            let (holder, _) = board.holders().holder(card.holder);
+            let (holder, _) = *board.holders().holder(card.holder);
             Some(NetFacts {
                 range: *range,
                 kind: NetKind::Sub,

@@ -1,25 +1,33 @@
-use Rattle.std.proofs.Common.{◌≡◌, ◌<◌, None, Some, List, ℕ, length, sym, subst, rules, arith}
-use Rattle.std.specs.List.{All, HoldsAt}
+use Rattle.std.proofs.Common.{◌≡◌, ◌∙◌, Some, None, ℕ, List, false, ap, sym, subst}
+use Rattle.std.specs.Option.{option_map_or}
+use Rattle.std.specs.Str.{bytes_eq}
+use Rattle.std.proofs.lemmas.Option.{none-some}
+use Rattle.std.proofs.lemmas.Slice.Eq.{bytes_eq-Decides}
+use Rattle.page_dir.specs.Sorted.{rank}
 use Rattle.reg_entry.specs.Holders.{holder_number}
-use Rattle.holder_book.specs.Index.{entries, IsBetween}
-use Rattle.holder_book.proofs.Entries.{numbers_within, number_found}
-use Rattle.holder_book.proofs.Indexing.{none_found}
+use Rattle.holder_book.proofs.Indexing.{compared, known_at, none_found}
 use Rattle.holder_book.proofs.book.HolderBook.by_handle.Goals as goal
 
-pub place-requires-clause-numbers : goal.place-requires-clause-numbers
-place-requires-clause-numbers c =
-    subst (λ (numbers : List ℕ). All (λ n. n < length c.self.inside.holders.holders) numbers) (sym c.deref.ensures.value)
-    (numbers_within c.self.inside.holders.holders c.self.inside.by_handle.items c.self.invariant.index)
+pub returns-in_err-found-clause-number : goal.returns-in_err-found-clause-number
+returns-in_err-found-clause-number c =
+    subst (λ b. c.from_residual.result ≡ holder_number b.holders c.args.handle.now) c.self.view_is
+    (c.from_residual.ensures
+    ∙ sym (none_found c.self.inside.holders.holders c.self.inside.numbers.pairs c.args.handle.now c.self.invariant.index
+    (λ p e. absurd (none-some p (sym c.in_err-found.was ∙ c.from.ensures ∙ e)))))
 
-pub returns-in-Ok-clause-number : goal.returns-in-Ok-clause-number
-returns-in-Ok-clause-number c =
-    let found = subst (λ (numbers : List ℕ). HoldsAt (λ e. e.0 ≡ c.args.handle.now) (entries c.self.inside.holders.holders numbers) c.in-Ok.i) c.deref.ensures.value c.in-Ok.ensures.found in
-    let within : c.in-Ok.i < length c.self.inside.by_handle.items = omega (arith, c.in-Ok.ensures.bound, c.deref.ensures.len) in
-    subst (λ b. Some c.index.result.now ≡ holder_number b.holders c.args.handle.now) c.self.view_is
-    (sym (number_found c.self.inside.holders.holders c.self.inside.by_handle.items c.in-Ok.i c.index.result.now c.args.handle.now c.self.invariant.index within (search rules) found))
+pub returns-then-eq-clause-number : goal.returns-then-eq-clause-number
+returns-then-eq-clause-number c =
+    let pairs = c.self.inside.numbers.pairs in
+    let found = known_at c.self.inside.holders.holders pairs (rank compared c.args.handle.now pairs) (c.in_ok-found.found, c.in_ok-found.number) c.self.invariant.index
+    (sym c.from.ensures ∙ c.in_ok-found.was) in
+    let same = (bytes_eq-Decides c.in_ok-found.found c.args.handle.now).0 (sym c.eq.ensures ∙ c.if-eq.true) in
+    subst (λ b. Some c.in_ok-found.number ≡ holder_number b.holders c.args.handle.now) c.self.view_is
+    (sym (ap (holder_number c.self.inside.holders.holders) (sym same) ∙ found))
 
-pub returns-in-Err-clause-number : goal.returns-in-Err-clause-number
-returns-in-Err-clause-number c =
+pub returns-else-eq-clause-number : goal.returns-else-eq-clause-number
+returns-else-eq-clause-number c =
     subst (λ b. None ≡ holder_number b.holders c.args.handle.now) c.self.view_is
-    (sym (none_found c.self.inside.holders.holders (entries c.self.inside.holders.holders c.self.inside.by_handle.items) c.in-Err.field-0 c.args.handle.now c.self.invariant.index
-    (subst (λ numbers. IsBetween c.args.handle.now (entries c.self.inside.holders.holders numbers) c.in-Err.field-0) c.deref.ensures.value c.in-Err.ensures.between)))
+    (sym (none_found c.self.inside.holders.holders c.self.inside.numbers.pairs c.args.handle.now c.self.invariant.index
+    (λ p e.
+    ap (λ o. option_map_or (λ (q : List ℕ × ℕ). bytes_eq q.0 c.args.handle.now) o false) (sym e ∙ sym c.from.ensures ∙ c.in_ok-found.was)
+    ∙ sym c.eq.ensures ∙ c.if-eq.false)))

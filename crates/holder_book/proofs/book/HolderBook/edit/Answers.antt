@@ -8,7 +8,7 @@ pub invariant_of-self : goal.invariant_of-self
 invariant_of-self c =
     let there = subst (λ b. holder_number b.holders c.args.holder.now.handle ≡ Some c.args.number) (sym c.self.view_is) c.requires in
     rw (c.set.ensures.holders, c.set.ensures.room)
-    (kept_after_editing c.self.inside.holders.holders c.self.inside.by_handle.items c.args.holder.now c.args.day c.args.number _ _ c.self.invariant there)
+    (kept_after_editing c.self.inside.holders.holders c.self.inside.numbers.pairs c.args.holder.now c.args.day c.args.number _ _ c.self.invariant there)
 
 pub returns-clause-holders : goal.returns-clause-holders
 returns-clause-holders c =
