@@ -1,5 +1,5 @@
 //! The reasons for a refusal, each a condition with a name of its own. What a condition says of a piece or of a handle's
-//! holder it says of what was found, so that a decision looks each of them up once.
+//! holder it says of what was found: to look it up is the caller's part.
 ghost use Rattle.std.specs.Prelude.{◌≡◌, ◌==◌, ◌<◌, not, length, IfSome};
 ghost use Rattle.std.specs.Option.{is_some, option_and_then};
 ghost use Rattle.reg_entry.specs.declared.refusal.Refusal.TheVariants.{OutsidePool, NotOnePiece, WrongStatus, UnknownHolder, CardsDiffer};

@@ -123,8 +123,9 @@ impl Board {
             .or_else(|| self.meets_reverse(range))
     }
 
-    /// Why the register can't do what is asked for, whatever the day and whatever the policy says, or nothing. The piece that
-    /// holds the first number is looked up once, and so is each handle.
+    /// Why the register can't do what is asked for, whatever the day and whatever the policy says, or nothing. Each handle is
+    /// looked up once, and so is the piece that holds the first number; others are where the range goes beyond it, and for a
+    /// join the one before.
     pub fn early_refusal(&self, request: &Request) -> Option<Refusal>
         ensures { result ≡ first_of (early_rules self.now.register request.now) }
     {
