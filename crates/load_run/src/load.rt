@@ -1,10 +1,12 @@
 //! The register of a load.
-ghost use Rattle.std.specs.Prelude.{◌≡◌, ◌≤◌, ◌<◌, ◌+◌, ◌^◌, IfOk};
+ghost use Rattle.std.specs.Prelude.{◌≡◌, ◌≤◌, ◌<◌, ◌+◌, ◌^◌, None, IfOk};
 ghost use Rattle.reg_entry.specs.Decision.{IfAccepted};
 ghost use Rattle.reg_entry.specs.Next.{IsNextEntry};
+ghost use Rattle.reg_entry.specs.Request.{IsSizedRequest};
 ghost use Rattle.reg_entry.specs.Rooms.{AreRooms};
 ghost use Rattle.policy_table.specs.Policy.{first_name};
 ghost use Rattle.load_gen.specs.Load.{new_load, after_reply, after_request, after_requests, drawn_piece, after_draw, loaded};
+ghost use Rattle.request_core.specs.Undated.{undated_refusal};
 ghost use Rattle.load_gen.specs.Opening.{opening_requests};
 
 use board::Board;
@@ -12,7 +14,7 @@ use load_gen::{Draw, Draws, FIRST_DAY, OPENING_REQUESTS, opening_request};
 use num_range::Range;
 use policy_table::Policy;
 use reg_entry::{Reply, Request, Rooms};
-use request_core::decide;
+use request_core::{decide_on_day, undated_refusal};
 use std::alloc::{AllocError, Global};
 use std::marker::Model;
 
@@ -59,15 +61,30 @@ impl<'a> Load<'a> {
         }
     }
 
-    /// Asks on the day.
+    /// Asks, on the day, what isn't refused whatever the day.
+    fn ask_on_day(&mut self, day: u32, request: &Request)
+        requires few { self.old.refused + 1 < 2 ^ 64 }
+        requires sized { IsSizedRequest request.now }
+        requires unopposed { undated_refusal self.old.register self.old.policy self.old.who request.now ≡ None }
+        ensures load { self.new ≡ after_request self.old day request.now }
+        ensures few { self.new.refused ≤ self.old.refused + 1 }
+    {
+        let who = self.policy.first_hostmaster();
+        let reply = decide_on_day(&self.board, self.policy, day, who, request);
+        self.take(&reply);
+    }
+
+    /// Asks on the day. Nine requests in ten are refused before there is an entry, which then needn't be made room for.
     fn ask(&mut self, day: u32, request: &Request)
         requires few { self.old.refused + 1 < 2 ^ 64 }
         ensures load { self.new ≡ after_request self.old day request.now }
         ensures few { self.new.refused ≤ self.old.refused + 1 }
     {
         let who = self.policy.first_hostmaster();
-        let reply = decide(&self.board, self.policy, day, who, request);
-        self.take(&reply);
+        match undated_refusal(&self.board, self.policy, who, request) {
+            Some(_) => self.refused += 1,
+            None => self.ask_on_day(day, request),
+        }
     }
 
     /// The range of the piece whose numbers a draw may name.

@@ -1,12 +1,12 @@
-ghost use Rattle.std.specs.Prelude.{◌≡◌, None, IfNone};
-ghost use Rattle.std.specs.Option.{option_or};
+ghost use Rattle.std.specs.Prelude.{◌≡◌, ℕ, None, IfNone, IfSome};
 ghost use Rattle.num_range.specs.Number.{PlainNumber};
 ghost use Rattle.reg_entry.specs.declared.request.Request.TheVariants.{Split};
-ghost use Rattle.reg_entry.specs.declared.entry.Reply.TheVariants.{Accepted};
-ghost use Rattle.reg_entry.specs.Decision.{decision, first_of, unknown_hostmaster, early_rules, policy_rules, late_refusal, refusal_of, proposed_entry, IfAccepted};
+ghost use Rattle.reg_entry.specs.declared.entry.Reply.TheVariants.{Accepted, Refused};
+ghost use Rattle.reg_entry.specs.Decision.{decision, late_refusal, refusal_of, proposed_entry, IfAccepted};
 ghost use Rattle.reg_entry.specs.Next.{IsNextEntry};
 ghost use Rattle.reg_entry.specs.Covers.{IsLeastCover};
 ghost use Rattle.reg_entry.specs.Request.{IsSizedRequest};
+ghost use Rattle.request_core.specs.Undated.{undated_refusal};
 
 use crate::policy_rules::policy_refusal;
 use crate::proposal::proposed_entry;
@@ -15,10 +15,16 @@ use policy_table::Policy;
 use reg_entry::{Entry, Name, Refusal, Reply, Request};
 use reg_laws::next::accepted_may_come_next;
 
-/// Why the request is refused on any day, or nothing.
-fn first_refusal(board: &Board, policy: &Policy, who: &Name, request: &Request) -> Option<Refusal>
-    ensures refusal { result ≡ option_or (unknown_hostmaster policy.now who.now)
-        (option_or (first_of (early_rules board.now.register request.now)) (first_of (policy_rules board.now.register policy.now request.now))) }
+/// Why the request is refused whatever the day, or nothing.
+#[tactic(auto, using(crate::proofs::Refusals::refused_whatever))]
+pub fn undated_refusal(
+    board: &Board,
+    policy: &Policy,
+    who: &Name,
+    request: &Request,
+) -> Option<Refusal>
+    ensures refusal { result ≡ undated_refusal board.now.register policy.now who.now request.now }
+    ensures decision { IfSome result (λ refusal. (day : ℕ) → decision board.now.register policy.now day who.now request.now ≡ Refused refusal) }
     ensures sized { IfNone result (IsSizedRequest request.now) }
 {
     if !policy.knows(who) {
@@ -39,13 +45,17 @@ fn late_refusal(board: &Board, e: &Entry) -> Option<Refusal>
     board.late_refusal(&e.request, e.day, &e.cover, &e.card)
 }
 
-/// Decides a request against which nothing is said on any day. It is a function of its own, so that a refusal before has no
-/// entry to make room for.
-#[tactic(auto, using(crate::proofs::Refusals::refused_before))]
-fn decide_on_day(board: &Board, policy: &Policy, day: u32, who: &Name, request: &Request) -> Reply
+/// Decides, on a day of the clock, a request that isn't refused whatever the day. It is a call of its own, so that a refusal
+/// before has no entry to make room for.
+pub fn decide_on_day(
+    board: &Board,
+    policy: &Policy,
+    day: u32,
+    who: &Name,
+    request: &Request,
+) -> Reply
     requires sized { IsSizedRequest request.now }
-    requires unopposed { option_or (unknown_hostmaster policy.now who.now)
-        (option_or (first_of (early_rules board.now.register request.now)) (first_of (policy_rules board.now.register policy.now request.now))) ≡ None }
+    requires unopposed { undated_refusal board.now.register policy.now who.now request.now ≡ None }
     ensures decision { result ≡ decision board.now.register policy.now day who.now request.now }
     ensures accepted { refusal_of board.now.register policy.now day who.now request.now ≡ None
         → result ≡ Accepted (proposed_entry board.now.register policy.now day who.now request.now) }
@@ -74,7 +84,7 @@ pub fn decide(board: &Board, policy: &Policy, day: u32, who: &Name, request: &Re
     ensures next { IfAccepted result (IsNextEntry board.now.register) }
     ensures least { IfAccepted result (λ e. IsLeastCover board.now.register e.request e.cover) }
 {
-    if let Some(refusal) = first_refusal(board, policy, who, request) {
+    if let Some(refusal) = undated_refusal(board, policy, who, request) {
         return Reply::Refused(refusal);
     }
     decide_on_day(board, policy, day, who, request)

@@ -7,4 +7,4 @@ mod proposal;
 #[cfg(test)]
 mod tests;
 
-pub use decision::decide;
+pub use decision::{decide, decide_on_day, undated_refusal};
