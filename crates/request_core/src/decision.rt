@@ -8,7 +8,7 @@ ghost use Rattle.reg_entry.specs.Covers.{IsLeastCover};
 ghost use Rattle.reg_entry.specs.Request.{IsSizedRequest};
 ghost use Rattle.request_core.specs.Undated.{undated_refusal};
 
-use crate::policy_rules::policy_refusal;
+use crate::policy_rules::rule_refusal;
 use crate::proposal::proposed_entry;
 use board::Board;
 use policy_table::Policy;
@@ -30,11 +30,7 @@ pub fn undated_refusal(
     if !policy.knows(who) {
         return Some(Refusal::UnknownHostmaster);
     }
-    let early = board.early_refusal(request);
-    if early.is_some() {
-        return early;
-    }
-    policy_refusal(board, policy, request)
+    rule_refusal(board, policy, request)
 }
 
 /// Why the entry can't be made on its day, or nothing.

@@ -1,15 +1,16 @@
-//! Whether the policy allows a request.
+//! Whether the register and the policy allow a request, whatever the day.
 ghost use Rattle.std.specs.Prelude.{◌≡◌, ◌+◌, ◌<◌, ◌≤◌, ◌-◌, ◌*◌, ◌/◌, ◌^◌, ◌&&◌, min, nat_eq, nat_lt, not, true, if◌then◌else◌, length, IfNone, IfSome};
-ghost use Rattle.std.specs.Option.{option_and_then, option_eq};
+ghost use Rattle.std.specs.Option.{option_and_then, option_eq, option_or};
 ghost use Rattle.num_range.specs.Range.{size_of};
 ghost use Rattle.reg_entry.specs.declared.refusal.Refusal.TheVariants.{HolderKind, OverCap, UnderUsed};
+ghost use Rattle.reg_entry.specs.declared.request.Request.TheVariants.{Delegate};
 ghost use Rattle.reg_entry.specs.Covers.{first_number};
 ghost use Rattle.reg_entry.specs.Holders.{holder_named, holder_number};
 ghost use Rattle.reg_entry.specs.Policy.{PlainRows, row_in, policy_row, lists_kind, IsRowOf};
 ghost use Rattle.reg_entry.specs.Register.{piece_of};
 ghost use Rattle.reg_entry.specs.Request.{has_size, status_of, IsSizedRequest};
 ghost use Rattle.reg_entry.specs.Sums.{held, allocated, used};
-ghost use Rattle.reg_entry.specs.Decision.{first_of, on_piece, refuse_if, amount_out_of_policy, delegate_rules, transfer_rules, policy_rules};
+ghost use Rattle.reg_entry.specs.Decision.{first_of, on_piece, refuse_if, amount_out_of_policy, delegate_rules, early_rules, transfer_rules, policy_rules};
 ghost use Rattle.request_core.specs.Named.{holder_of};
 
 use board::Board;
@@ -106,8 +107,9 @@ fn under_used(board: &Board, row: &Row, space: Space, number: Option<u32>) -> Op
     Refusal::UnderUsed { used, held }.when(0 < held && used < hundredths(held, row.percent))
 }
 
-/// What is against a delegation by the row of its space and status.
-fn row_refusal(
+/// What is against a delegation whatever the day, by the row of its space and status: its holder, who is looked up once, isn't
+/// known, or the row doesn't allow it.
+fn delegate_refusal(
     board: &Board,
     row: &Row,
     space: Space,
@@ -116,15 +118,19 @@ fn row_refusal(
     handle: &Handle,
 ) -> Option<Refusal>
     requires { IsRowOf space row.now }
-    ensures refusal { result ≡ first_of (delegate_rules board.now.register row.now space amount (status_of status) handle.now) }
+    ensures refusal { result ≡ option_or (first_of (early_rules board.now.register (Delegate space amount status handle.now)))
+        (first_of (delegate_rules board.now.register row.now space amount (status_of status) handle.now)) }
     ensures sized { IfNone result (has_size space amount ≡ true) }
 {
+    let number = holder_number(board, handle);
+    if number.is_none() {
+        return Some(Refusal::UnknownHolder { handle: *handle });
+    }
     let amount_refusal = amount_out_of_policy(row, amount);
     if amount_refusal.is_some() {
         return amount_refusal;
     }
     let size = space.amount_size(amount);
-    let number = holder_number(board, handle);
     let refusal = kind_left_out(board, row, number).or_else(|| over_cap(
         board, row, space, number, size,
     ));
@@ -190,9 +196,10 @@ fn row_of(policy: &Policy, space: Space, delegation: Delegation) -> Row
     policy.row(space, delegation)
 }
 
-/// Why the policy doesn't allow the request, or nothing.
-pub(crate) fn policy_refusal(board: &Board, policy: &Policy, request: &Request) -> Option<Refusal>
-    ensures refusal { result ≡ first_of (policy_rules board.now.register policy.now request.now) }
+/// Why the register or the policy refuses the request whatever the day, or nothing.
+pub(crate) fn rule_refusal(board: &Board, policy: &Policy, request: &Request) -> Option<Refusal>
+    ensures refusal { result ≡ option_or (first_of (early_rules board.now.register request.now))
+        (first_of (policy_rules board.now.register policy.now request.now)) }
     ensures sized { IfNone result (IsSizedRequest request.now) }
 {
     match request {
@@ -203,9 +210,11 @@ pub(crate) fn policy_refusal(board: &Board, policy: &Policy, request: &Request) 
             handle,
         } => {
             let row = row_of(policy, *space, *status);
-            row_refusal(board, &row, *space, *amount, *status, handle)
+            delegate_refusal(board, &row, *space, *amount, *status, handle)
         }
-        Request::Transfer { range, to, .. } => transfer_refusal(board, policy, range, to),
-        _ => None,
+        Request::Transfer { range, to, .. } => board
+            .early_refusal(request)
+            .or_else(|| transfer_refusal(board, policy, range, to)),
+        _ => board.early_refusal(request),
     }
 }
