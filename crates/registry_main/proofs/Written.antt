@@ -74,6 +74,57 @@ BeginsWith_kept (Some x) None c k h = absurd k
 BeginsWith_kept (Some x) (Some y) None k h = absurd h
 BeginsWith_kept (Some x) (Some y) (Some z) k h = (h.0, sym k ∙ h.1)
 
+-- ---- what is held back
+
+kept_before : (a b : Option (List ℕ)) (text : List ℕ) → Keeps a b → Keeps (append_known a text) (append_known b text)
+kept_before None b text k = tt
+kept_before (Some x) None text k = absurd k
+kept_before (Some x) (Some y) text k = ap (λ l. l ++ text) k
+
+nothing_held : (a : Option (List ℕ)) (held : List ℕ) → held ≡ [] → Keeps a (append_known a held)
+nothing_held None held none = tt
+nothing_held (Some x) held none = ap (λ l. x ++ l) none ∙ append-nil x
+
+held_written : (a b : Option (List ℕ)) (held : List ℕ) → Appends a b held → Keeps (append_known a held) b
+held_written None b held p = tt
+held_written (Some x) None held p = absurd p
+held_written (Some x) (Some y) held p = p
+
+begins_more : (a b : Option (List ℕ)) (text : List ℕ) → BeginsWith a b → BeginsWith (append_known a text) b
+begins_more None b text h = tt
+begins_more (Some x) None text h = absurd h
+begins_more (Some x) (Some y) text h = (h.0 ++ text, ap (λ l. l ++ text) h.1 ∙ append_assoc y h.0 text)
+
+-- from nothing held to all of it written
+pub all_written : (a b c : Option (List ℕ)) (none held before after : List ℕ) → none ≡ []
+    → Keeps (append_known (append_known a none) before) (append_known (append_known b held) after) → Appends b c held
+    → Keeps (append_known a before) (append_known c after)
+all_written a b c none held before after empty k p =
+    Keeps-trans _ _ _ (kept_before a (append_known a none) before (nothing_held a none empty))
+    (Keeps-trans _ _ _ k (kept_before (append_known b held) c after (held_written b c held p)))
+
+pub held_broken : (a b c : Option (List ℕ)) (none held before after : List ℕ) → none ≡ []
+    → Keeps (append_known (append_known a none) before) (append_known (append_known b held) after) → IsFrontWritten b held c
+    → BeginsWith (append_known a before) c
+held_broken a b c none held before after empty k h =
+    BeginsWith_kept _ _ c (kept_before a (append_known a none) before (nothing_held a none empty))
+    (BeginsWith_kept _ _ c k (begins_more (append_known b held) c after h))
+
+-- the same where nothing is answered behind it
+pub last_written : (a b c : Option (List ℕ)) (none held before : List ℕ) → none ≡ []
+    → Keeps (append_known (append_known a none) before) (append_known b held) → Appends b c held → Keeps (append_known a before) c
+last_written a b c none held before empty k p =
+    Keeps-trans _ _ _ (kept_before a (append_known a none) before (nothing_held a none empty)) (Keeps-trans _ _ _ k (held_written b c held p))
+
+pub last_held_broken : (a b c : Option (List ℕ)) (none held before : List ℕ) → none ≡ []
+    → Keeps (append_known (append_known a none) before) (append_known b held) → IsFrontWritten b held c → BeginsWith (append_known a before) c
+last_held_broken a b c none held before empty k h =
+    BeginsWith_kept _ _ c (kept_before a (append_known a none) before (nothing_held a none empty)) (BeginsWith_kept _ _ c k h)
+
+pub before_broken : (a c : Option (List ℕ)) (none before : List ℕ) → none ≡ [] → BeginsWith (append_known (append_known a none) before) c
+    → BeginsWith (append_known a before) c
+before_broken a c none before empty h = BeginsWith_kept _ _ c (kept_before a (append_known a none) before (nothing_held a none empty)) h
+
 -- the end of a line that is kept, with what stands behind it
 line_held : (w : Option (List ℕ)) (r : PlainSession) (line front behind rest held tail : List ℕ)
     → IsAnsweredAs held (line ++ front) → rest ≡ front ++ 10 ∷ behind

@@ -1,6 +1,6 @@
 //! A script, read in pieces and answered line by line.
 ghost use Rattle.std.specs.Prelude.{◌≡◌, ◌≢◌, ◌≤◌, ◌++◌, ℕ, List, [], ◌∷◌, Err, OnOk, OnErr, MatchOption};
-ghost use Rattle.std.specs.Io.KnownBytes.{Appends, Keeps, IsAtEnd};
+ghost use Rattle.std.specs.Io.KnownBytes.{append_known, Appends, Keeps, IsAtEnd};
 ghost use Rattle.std.specs.Str.Lines.{strip_carriage_return};
 ghost use Rattle.link_face.specs.Faults.{HasCause, HasRisen};
 ghost use Rattle.registry_main.specs.Session.{answered};
@@ -8,6 +8,7 @@ ghost use Rattle.registry_main.specs.LineBuffer.{HasNoNewline};
 ghost use Rattle.registry_main.specs.Batch.{with_replies, with_all_replies, BeginsWith, IsFrontWritten, IsUpToDate, known};
 ghost use Rattle.registry_main.specs.declared.batch.Stop.TheVariants.{Read, Write};
 
+use crate::held_replies::{HeldReplies, write_held};
 use crate::line_buffer::LineBuffer;
 use crate::session::Session;
 use desk_lang::parted_at;
@@ -34,30 +35,36 @@ pub fn without_return(line: &[u8]) -> &[u8]
 }
 
 /// Answers one line, which is handed in without its line end.
-fn answer_line<K: Sink>(session: &mut Session, line: &[u8], out: &mut K) -> Result<(), Failed>
-    ensures ok { OnOk result (Appends (K.written out.old) (K.written out.new) (answered session.old line.now).text) }
+fn answer_line<K: Sink>(
+    session: &mut Session,
+    line: &[u8],
+    held: &mut HeldReplies,
+    out: &mut K,
+) -> Result<(), Failed>
+    ensures ok { OnOk result (Appends (append_known (K.written out.old) held.old.items) (append_known (K.written out.new) held.new.items) (answered session.old line.now).text) }
     ensures session { OnOk result (session.new ≡ (answered session.old line.now).session) }
-    ensures err { OnErr result (IsFrontWritten (K.written out.old) (answered session.old line.now).text (K.written out.new)) }
+    ensures err { OnErr result (IsFrontWritten (append_known (K.written out.old) held.old.items) (answered session.old line.now).text (K.written out.new)) }
     ensures cause { HasCause (K.faults out.old) (K.faults out.new) result }
 {
     let answer = session.answer(line);
-    answer.write(session, out)
+    answer.write(session, held, out)
 }
 
 /// Answers the line that is kept, whose end has come, and begins the next.
 fn end_line<K: Sink>(
     session: &mut Session,
     line: &mut LineBuffer,
+    held: &mut HeldReplies,
     out: &mut K,
 ) -> Result<(), Failed>
     ensures ok { OnOk result ((tail : List ℕ) →
-        Keeps (with_replies (K.written out.old) session.old (line.old ++ 10 ∷ tail)) (with_replies (K.written out.new) session.new tail)) }
+        Keeps (with_replies (append_known (K.written out.old) held.old.items) session.old (line.old ++ 10 ∷ tail)) (with_replies (append_known (K.written out.new) held.new.items) session.new tail)) }
     ensures empty { OnOk result (line.new ≡ []) }
     ensures err { OnErr result ((tail : List ℕ) →
-        BeginsWith (with_replies (K.written out.old) session.old (line.old ++ 10 ∷ tail)) (K.written out.new)) }
+        BeginsWith (with_replies (append_known (K.written out.old) held.old.items) session.old (line.old ++ 10 ∷ tail)) (K.written out.new)) }
     ensures cause { HasCause (K.faults out.old) (K.faults out.new) result }
 {
-    answer_line(session, without_return(line.bytes()), out)?;
+    answer_line(session, without_return(line.bytes()), held, out)?;
     line.clear();
     Ok(())
 }
@@ -75,6 +82,32 @@ fn answer_lines<K: Sink>(
     session: &mut Session,
     line: &mut LineBuffer,
     piece: &[u8],
+    held: &mut HeldReplies,
+    out: &mut K,
+) -> Result<(), Failed>
+    ensures ok { OnOk result ((tail : List ℕ) →
+        Keeps (with_replies (append_known (K.written out.old) held.old.items) session.old (line.old ++ (piece.now ++ tail))) (with_replies (append_known (K.written out.new) held.new.items) session.new (line.new ++ tail))) }
+    ensures line { OnOk result (HasNoNewline line.new) }
+    ensures err { OnErr result ((tail : List ℕ) →
+        BeginsWith (with_replies (append_known (K.written out.old) held.old.items) session.old (line.old ++ (piece.now ++ tail))) (K.written out.new)) }
+    ensures cause { HasCause (K.faults out.old) (K.faults out.new) result }
+{
+    let mut rest = piece;
+    'lines: while let Some((front, behind)) = part_at_newline(rest) {
+        line.extend(front);
+        end_line(session, line, held, out)?;
+        rest = behind;
+    }
+    line.extend(rest);
+    Ok(())
+}
+
+/// Answers each line that ends in a piece of the script, and keeps what comes behind the last line end. The replies are written
+/// before this returns, in as few writes as they fit into.
+fn answer_piece<K: Sink>(
+    session: &mut Session,
+    line: &mut LineBuffer,
+    piece: &[u8],
     out: &mut K,
 ) -> Result<(), Failed>
     ensures ok { OnOk result ((tail : List ℕ) →
@@ -84,14 +117,9 @@ fn answer_lines<K: Sink>(
         BeginsWith (with_replies (K.written out.old) session.old (line.old ++ (piece.now ++ tail))) (K.written out.new)) }
     ensures cause { HasCause (K.faults out.old) (K.faults out.new) result }
 {
-    let mut rest = piece;
-    'lines: while let Some((front, behind)) = part_at_newline(rest) {
-        line.extend(front);
-        end_line(session, line, out)?;
-        rest = behind;
-    }
-    line.extend(rest);
-    Ok(())
+    let mut held = HeldReplies::new();
+    answer_lines(session, line, piece, &mut held, out)?;
+    write_held(&mut held, out)
 }
 
 /// Answers the last line, where it has no line end.
@@ -104,7 +132,9 @@ fn end_script<K: Sink>(session: &mut Session, line: &LineBuffer, out: &mut K) ->
     if text.is_empty() {
         return Ok(());
     }
-    answer_line(session, text, out)
+    let mut held = HeldReplies::new();
+    answer_line(session, text, &mut held, out)?;
+    write_held(&mut held, out)
 }
 
 /// Answers a script up to its end. The answers to the lines that have come are written before the next read.
@@ -133,7 +163,7 @@ pub fn answer_script<T: Source, K: Sink>(
             Err(_) => return Err(Stop::Read),
             Ok(0) => break,
             Ok(count) => {
-                if let Err(Failed) = answer_lines(session, &mut line, &piece[..count], out) {
+                if let Err(Failed) = answer_piece(session, &mut line, &piece[..count], out) {
                     return Err(Stop::Write);
                 }
             }

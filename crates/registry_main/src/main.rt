@@ -10,6 +10,7 @@ mod batch;
 mod command;
 mod due_lines;
 mod exit;
+mod held_replies;
 mod laws;
 mod line_buffer;
 mod load;

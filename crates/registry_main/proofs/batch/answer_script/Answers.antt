@@ -21,10 +21,10 @@ returns-in-Err-clause-up_to_date g c _ =
     come_is_answered _ _ _ _ _ c.pieces.invariant.line
     (no_more_has_come _ _ _ _ _ _ _ _ _ c.pieces.invariant.come c.in-Err.ensures.taken c.in-Err.ensures.left)
 
-pub returns-in-Err-answer_lines-clause-err : goal.returns-in-Err-answer_lines-clause-err
-returns-in-Err-answer_lines-clause-err g c =
+pub returns-in-Err-answer_piece-clause-err : goal.returns-in-Err-answer_piece-clause-err
+returns-in-Err-answer_piece-clause-err g c =
     BeginsWith_kept _ _ _ (come_is_kept _ _ _ _ _ c.pieces.invariant.come)
-    (piece_broken _ _ _ c.pieces.line (take c.in-Ok.count c.read.new.buf) _ _ c.in-Ok.ensures.left.0 c.in-Err-answer_lines.ensures.err)
+    (piece_broken _ _ _ c.pieces.line (take c.in-Ok.count c.read.new.buf) _ _ c.in-Ok.ensures.left.0 c.in-Err-answer_piece.ensures.err)
 
 pub returns-in-Ok-end_script-clause-ok : goal.returns-in-Ok-end_script-clause-ok
 returns-in-Ok-end_script-clause-ok g c =

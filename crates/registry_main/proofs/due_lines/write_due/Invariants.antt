@@ -9,6 +9,6 @@ invariant-loop-piece g l = record {
   next : (goal.iterator-loop-piece g).can_next l.piece-iterator;
   finite : (goal.iterator-loop-piece g).is_finite l.piece-iterator;
   faults : g.K.Sink.faults l.out ≡ g.K.Sink.faults l.fn.out;
-  kept : Keeps (append_known (g.K.Sink.written l.fn.out) (due_text (due_pieces l.pieces.partition l.day)))
-      (append_known (g.K.Sink.written l.out) (piece_lines l.piece-iterator));
+  kept : Keeps (append_known (append_known (g.K.Sink.written l.fn.out) l.fn.held.items) (due_text (due_pieces l.pieces.partition l.day)))
+      (append_known (append_known (g.K.Sink.written l.out) l.held.items) (piece_lines l.piece-iterator));
 }

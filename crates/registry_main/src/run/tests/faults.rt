@@ -23,33 +23,48 @@ fn front(text: &[u8], lines: usize, more: usize) -> &[u8] {
     text
 }
 
-/// Whether the run ends so under a plan, after it wrote this.
+/// Whether the run over the script in such pieces ends so under a plan, after it wrote this.
 fn ends_so<R: AllocGlobal + Threads + Wait + Sync>(
     rt: &R,
+    piece: usize,
     plan: &Plan<'_>,
     exit: Exit,
     wanted: &[u8],
 ) -> Result<bool, Fail> {
-    let (ended, written) = answer(rt, "batch", SCRIPT, 7, plan)?;
+    let (ended, written) = answer(rt, "batch", SCRIPT, piece, plan)?;
     Ok(ended == exit && written.as_slice() == wanted)
 }
 
-// Each line of each answer is a write of its own.
+// The answers to the lines that end in one piece are one write: how many lines of them stand before it. No piece of seven
+// bytes ends two lines that are answered, and the answer to `due` has two lines.
 #[test]
 fn stops_where_a_write_fails(rt: HostRuntime) -> Result<(), Fail> {
-    for call in 0..8usize {
-        let out = [call as u64];
+    for (piece, call, lines) in [
+        (7usize, 0u64, 0usize),
+        (7, 1, 1),
+        (7, 3, 3),
+        (7, 4, 4),
+        (7, 5, 6),
+        (7, 6, 7),
+        (8192, 0, 0),
+    ] {
+        let out = [call];
         let plan = Plan {
             out: &out,
             passes: 5,
             ..NO_FAULTS
         };
-        let wanted = front(ANSWERS, call, 5);
+        let wanted = front(ANSWERS, lines, 5);
         assert!(rt;
-            ends_so(&rt, &plan, Exit::WriteFault, wanted)?,
+            ends_so(&rt, piece, &plan, Exit::WriteFault, wanted)?,
             "at write {call}"
         );
     }
+    let plan = Plan {
+        out: &[1],
+        ..NO_FAULTS
+    };
+    assert!(rt; ends_so(&rt, 8192, &plan, Exit::Done, ANSWERS)?);
     Ok(())
 }
 
@@ -73,7 +88,7 @@ fn stops_where_a_read_fails(rt: HostRuntime) -> Result<(), Fail> {
         };
         let wanted = front(ANSWERS, lines, 0);
         assert!(rt;
-            ends_so(&rt, &plan, Exit::ReadFault, wanted)?,
+            ends_so(&rt, 7, &plan, Exit::ReadFault, wanted)?,
             "at read {call}"
         );
     }
@@ -85,7 +100,7 @@ fn stops_where_a_read_fails(rt: HostRuntime) -> Result<(), Fail> {
             ..NO_FAULTS
         };
         assert!(rt;
-            ends_so(&rt, &plan, Exit::ReadFault, b"")?,
+            ends_so(&rt, 7, &plan, Exit::ReadFault, b"")?,
             "at read {call}"
         );
     }
