@@ -21,7 +21,7 @@ use Rattle.reg_laws.proofs.RangeLists.{AllOf, ranges_of_apart}
 use Rattle.sub_book.specs.Book.{ranges_meeting}
 use Rattle.op_feed.specs.PieceChanges.{pieces_gone, pieces_come, piece_changes}
 use Rattle.op_feed.specs.EntryChanges.{dels, adds, entry_changes}
-use Rattle.board.specs.Noted.{PlainOperations, noted, all_noted, is_act, block_changes}
+use Rattle.board.specs.Noted.{PlainOperations, noted, all_noted, all_block_changes, is_act, block_changes}
 
 pub all_noted-append : (o : PlainOperations) (cs ds : List (Act × Object)) → all_noted o (cs ++ ds) ≡ all_noted (all_noted o cs) ds
 all_noted-append o [] ds = refl
@@ -127,6 +127,21 @@ adds_are hs before after =
     ∙ ap (λ xs. block_changes hs Add xs) (sym (append-nil (map (λ p. (Add, p)) (pieces_come before after))))
     ∙ gone_of hs Add (pieces_come before after) [] refl
     ∙ append-nil (adds (blocks_of hs (pieces_come before after)))
+
+abbrev block_change : List (Holder × ℕ) → Act × Piece → Act × Object
+block_change hs c = (c.0, block_of_piece hs c.1)
+
+changes_of_act : (hs : List (Holder × ℕ)) (act : Act) (ps : List Piece)
+    → map (block_change hs) (map (λ p. (act, p)) ps) ≡ map (λ o. (act, o)) (blocks_of hs ps)
+changes_of_act hs act [] = refl
+changes_of_act hs act (p ∷ ps) = ap (λ cs. (act, block_of_piece hs p) ∷ cs) (changes_of_act hs act ps)
+
+pub changes_are : (hs : List (Holder × ℕ)) (before after : List Piece)
+    → all_block_changes hs (piece_changes before after) ≡ dels (blocks_of hs (pieces_gone before after)) ++ adds (blocks_of hs (pieces_come before after))
+changes_are hs before after =
+    map-append (block_change hs) (map (λ p. (Del, p)) (pieces_gone before after)) (map (λ p. (Add, p)) (pieces_come before after))
+    ∙ ap (λ xs. xs ++ map (block_change hs) (map (λ p. (Add, p)) (pieces_come before after))) (changes_of_act hs Del (pieces_gone before after))
+    ∙ ap (λ xs. dels (blocks_of hs (pieces_gone before after)) ++ xs) (changes_of_act hs Add (pieces_come before after))
 
 -- ---- all of an entry
 

@@ -1,5 +1,5 @@
--- The operations that a board keeps, as they are noted one by one.
-use Rattle.std.specs.Prelude.{ℕ, ◌+◌, ◌<◌, Bool, true, false, List, [], ◌∷◌, ◌++◌, IfSome, filter, length, map}
+-- What a board notes of the pieces that change.
+use Rattle.std.specs.Prelude.{ℕ, ◌<◌, Bool, true, false, List, IfSome, filter, length, map}
 use Rattle.std.specs.List.{AllByRecursion}
 use Rattle.reg_entry.specs.declared.object.Object.{Object}
 use Rattle.reg_entry.specs.declared.holder.Holder.{Holder}
@@ -7,25 +7,7 @@ use Rattle.reg_entry.specs.declared.object.Act.{Act}
 use Rattle.reg_entry.specs.declared.object.Act.TheVariants.{Add, Del}
 use Rattle.reg_entry.specs.declared.piece.Piece.{Piece}
 use Rattle.reg_entry.specs.Objects.{block_of_piece}
-use Rattle.reg_entry.specs.Op.{PlainOp}
-use Rattle.reg_entry.specs.Operations.{last_of}
-
--- the serial of the last operation, the last operations, and how many of them may be kept
-pub record PlainOperations : Type 0 where
-  pub serial : ℕ
-  pub kept : List PlainOp
-  pub window : ℕ
-
-abbrev pub noted : PlainOperations → Act × Object → PlainOperations
-noted ops c = record {
-  serial = ops.serial + 1;
-  kept = last_of ops.window (ops.kept ++ record { serial = ops.serial + 1; act = c.0; object = c.1 } ∷ []);
-  window = ops.window;
-}
-
-abbrev pub all_noted : PlainOperations → List (Act × Object) → PlainOperations
-all_noted ops [] = ops
-all_noted ops (c ∷ cs) = all_noted (noted ops c) cs
+pub use Rattle.op_window.specs.Window.{PlainOperations, noted, all_noted}
 
 -- ---- changes of pieces
 
@@ -38,6 +20,10 @@ is_act Del Del = true
 -- the changes of pieces that are this act, each with its holder's handle
 abbrev pub block_changes : List (Holder × ℕ) → Act → List (Act × Piece) → List (Act × Object)
 block_changes hs act cs = map (λ c. (act, block_of_piece hs c.1)) (filter (λ c. is_act c.0 act) cs)
+
+-- all changes of pieces, each with its holder's handle
+abbrev pub all_block_changes : List (Holder × ℕ) → List (Act × Piece) → List (Act × Object)
+all_block_changes hs cs = map (λ c. (c.0, block_of_piece hs c.1)) cs
 
 -- the holder of the piece is there, or it has none
 abbrev pub HasHolder : List (Holder × ℕ) → Act × Piece → Type 0

@@ -165,9 +165,9 @@ impl Board {
     }
 
     /// The operation of this serial, or nothing where it isn't kept.
-    pub fn op(&self, serial: u64) -> Option<&Op>
-        ensures found { option_copied result ≡ find (λ op. op.serial == serial) self.now.kept }
-        ensures kept { IsSome (option_copied result) ↔ ((first_kept self.now ≤ serial) × (serial ≤ self.now.serial)) }
+    pub fn op(&self, serial: u64) -> Option<Op>
+        ensures found { result ≡ find (λ op. op.serial == serial) self.now.kept }
+        ensures kept { IsSome result ↔ ((first_kept self.now ≤ serial) × (serial ≤ self.now.serial)) }
     {
         // A law: the serials count up by one.
         reached_boards_number_operations();

@@ -124,8 +124,8 @@ impl Board {
     }
 
     /// Why the register can't do what is asked for, whatever the day and whatever the policy says, or nothing. Each handle is
-    /// looked up once, and so is the piece that holds the first number; others are where the range goes beyond it, and for a
-    /// join the one before.
+    /// looked up once, and so is the piece that holds the first number; a range that goes beyond it is looked through from its
+    /// first number on, and a join looks up the piece before as well.
     pub fn early_refusal(&self, request: &Request) -> Option<Refusal>
         ensures { result ≡ first_of (early_rules self.now.register request.now) }
     {

@@ -34,13 +34,18 @@ impl Board {
         Refusal::NotDue { until }.when(day < until)
     }
 
-    /// How many pieces there would be once the card was painted over the cover.
-    fn painted_count(&self, cover: &Option<Range>, card: &Option<Card>) -> u32
-        ensures { result ≡ piece_count (painted cover.now card.now self.now.register.pool) }
+    /// Where painting the card over the cover takes more pieces than there is room for.
+    fn painted_full(&self, cover: &Option<Range>, card: &Option<Card>) -> Option<Refusal>
+        ensures { result ≡ refuse_if (nat_lt self.now.register.rooms.pieces (piece_count (painted cover.now card.now self.now.register.pool)))
+            (RegisterFull (piece_count (painted cover.now card.now self.now.register.pool)) self.now.register.rooms.pieces) }
     {
+        let room = self.rooms().pieces;
         match (cover, card) {
-            (Some(range), Some(card)) => self.pieces().pieces_after(range, card.status),
-            _ => self.pieces().pieces(),
+            (Some(range), Some(card)) => {
+                let pieces = self.pieces().overflow(range, card.status)?;
+                Some(Refusal::RegisterFull { pieces, room })
+            }
+            _ => self.register_full(self.pieces().pieces()),
         }
     }
 
@@ -92,11 +97,11 @@ impl Board {
     {
         match request {
             Request::Receive { .. } | Request::Reserve { .. } => self
-                .register_full(self.painted_count(cover, card))
+                .painted_full(cover, card)
                 .or_else(|| self.journal_full()),
             Request::AddHolder { .. } => self.holders_full().or_else(|| self.journal_full()),
             Request::Delegate { .. } => no_block(cover)
-                .or_else(|| self.register_full(self.painted_count(cover, card)))
+                .or_else(|| self.painted_full(cover, card))
                 .or_else(|| self.journal_full()),
             Request::SubAssign { .. } => self.journal_full().or_else(|| self.subs_full()),
             Request::Return { range, .. } => {

@@ -7,13 +7,13 @@ ghost use Rattle.reg_entry.specs.Objects.{block_of_piece, blocks_of, sub_of, cut
 ghost use Rattle.reg_entry.specs.Ranges.{ranges_inside};
 ghost use Rattle.op_feed.specs.PieceChanges.{pieces_gone, pieces_come, piece_changes};
 ghost use Rattle.op_feed.specs.EntryChanges.{dels, adds, edit_changes, server_changes, entry_changes};
-ghost use Rattle.board.specs.Noted.{noted, all_noted, block_changes, HaveHolders};
+ghost use Rattle.board.specs.Noted.{noted, all_noted, all_block_changes, block_changes, HaveHolders};
 
 use cidr_cover::cuts;
-use circular_buffer::HeapCircularBuffer;
 use holder_book::HolderBook;
 use num_range::Range;
 use op_feed::changes;
+use op_window::OpWindow;
 use reg_entry::{
     Act, Entry, Handle, Holder, Object, Op, Piece, Request, Servers, SubCard, Touched,
 };
@@ -24,8 +24,7 @@ use sub_book::RangeBook;
 /// The last operations, and how many there were in all.
 #[derive(Drop)]
 pub(crate) struct Operations {
-    serial: u64,
-    kept: HeapCircularBuffer<Op>,
+    window: OpWindow,
 }
 
 impl Model for Operations {
@@ -33,7 +32,7 @@ impl Model for Operations {
 
     ghost Value = { PlainOperations };
 
-    ghost view = { λ o. record { serial = o.serial; kept = o.kept.items; window = o.kept.capacity } };
+    ghost view = { λ o. o.window };
 }
 
 impl Operations {
@@ -41,27 +40,24 @@ impl Operations {
     pub(crate) fn with_window(alloc: Global, window: u32) -> Result<Operations, AllocError>
         ensures { IfOk result (λ operations. operations ≡ record { serial = 0; kept = []; window = window }) }
     {
-        Ok(Operations {
-            serial: 0,
-            kept: HeapCircularBuffer::with_capacity(alloc, window as usize)?,
-        })
+        let window = OpWindow::with_window(alloc, window)?;
+        Ok(Operations { window })
     }
 
     /// The serials of the first and the last operation that is kept.
     pub(crate) fn serials(&self) -> (u64, u64)
-        requires bound { self.now.serial + 1 < 2 ^ 64 }
-        requires few { length self.now.kept ≤ self.now.serial }
+        requires { self.now.serial + 1 < 2 ^ 64 }
         ensures first { result.0 ≡ self.now.serial + 1 - length self.now.kept }
         ensures last { result.1 ≡ self.now.serial }
     {
-        (self.serial + 1 - self.kept.len() as u64, self.serial)
+        self.window.serials()
     }
 
     /// The operation of a serial that comes so many places behind the first.
-    pub(crate) fn at(&self, place: u64) -> Option<&Op>
-        ensures { option_copied result ≡ slice_get self.now.kept place }
+    pub(crate) fn at(&self, place: u64) -> Option<Op>
+        ensures { result ≡ slice_get self.now.kept place }
     {
-        self.kept.get(place as usize)
+        self.window.at(place)
     }
 
     /// Notes one operation more. Where there is no room for it the first one goes.
@@ -69,12 +65,7 @@ impl Operations {
         requires { self.old.serial + 1 < 2 ^ 64 }
         ensures { self.new ≡ noted self.old (act, object) }
     {
-        self.serial += 1;
-        self.kept.push_back(Op {
-            serial: self.serial,
-            act,
-            object,
-        });
+        self.window.note(act, object);
     }
 
     /// Notes the cuts of a reverse entry.
@@ -177,10 +168,7 @@ impl Operations {
             }
             Request::ClearReverse { range } => self.note_cleared(&reverse.exact(range), range),
             Request::Return { range, .. } => self.note_return(holders, reverse, range, touched),
-            _ => {
-                self.note_pieces(Act::Del, touched, holders);
-                self.note_pieces(Act::Add, touched, holders);
-            }
+            _ => self.note_changes(touched, holders),
         }
     }
 
@@ -215,6 +203,27 @@ impl Operations {
         self.note_pieces(Act::Add, touched, holders);
     }
 
+    /// Notes the block that is published of a piece.
+    fn note_block(&mut self, act: Act, piece: &Piece, holders: &HolderBook)
+        requires known { IfSome piece.now.card.holder (λ number. number < length holders.now.holders) }
+        requires serial { self.old.serial + 1 < 2 ^ 64 }
+        ensures { self.new ≡ noted self.old (act, block_of_piece holders.now.holders piece.now) }
+    {
+        let handle = handle_of(piece.card.holder, holders);
+        self.window.note_block(act, piece, handle);
+    }
+
+    /// Notes the pieces that go, and then those that come.
+    fn note_changes(&mut self, touched: &Touched, holders: &HolderBook)
+        requires known { HaveHolders holders.now.holders (piece_changes touched.now.before.items touched.now.after.items) }
+        requires room { self.old.serial + length (all_block_changes holders.now.holders (piece_changes touched.now.before.items touched.now.after.items)) < 2 ^ 64 }
+        ensures { self.new ≡ all_noted self.old (all_block_changes holders.now.holders (piece_changes touched.now.before.items touched.now.after.items)) }
+    {
+        for (act, piece) in changes(touched) {
+            self.note_block(act, &piece, holders);
+        }
+    }
+
     /// Notes the pieces that go, or those that come.
     fn note_pieces(&mut self, act: Act, touched: &Touched, holders: &HolderBook)
         requires known { HaveHolders holders.now.holders (piece_changes touched.now.before.items touched.now.after.items) }
@@ -223,7 +232,7 @@ impl Operations {
     {
         for (found, piece) in changes(touched) {
             if found == act {
-                self.note(act, block_of(&piece, holders));
+                self.note_block(act, &piece, holders);
             }
         }
     }
@@ -250,19 +259,5 @@ fn handle_of(holder: Option<u32>, holders: &HolderBook) -> Option<Handle>
             Some(holder.handle)
         }
         None => None,
-    }
-}
-
-/// What is published of a piece.
-fn block_of(piece: &Piece, holders: &HolderBook) -> Object
-    requires { IfSome piece.now.card.holder (λ number. number < length holders.now.holders) }
-    ensures { result ≡ block_of_piece holders.now.holders piece.now }
-{
-    Object::Block {
-        range: piece.range,
-        status: piece.card.status,
-        handle: handle_of(piece.card.holder, holders),
-        day: piece.card.day,
-        until: piece.card.until,
     }
 }

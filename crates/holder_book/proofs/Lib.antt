@@ -1,4 +1,5 @@
 pub mod Places
 pub mod Numbers
+pub mod HandleKeys
 pub mod Indexing
 pub mod Keeping

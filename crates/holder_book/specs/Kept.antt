@@ -4,7 +4,7 @@ use Rattle.reg_entry.specs.declared.holder.Holder.{Holder}
 use Rattle.reg_entry.specs.Holders.{HaveDistinctHandles}
 use Rattle.holder_book.specs.Index.{IsHolderIndex}
 
-pub record IsHolderBook (hs : List (Holder × ℕ)) (ps : List (List ℕ × ℕ)) (room index_room : ℕ) : Type 0 where
+pub record IsHolderBook (hs : List (Holder × ℕ)) (ps : List (ℕ × ℕ)) (room index_room : ℕ) : Type 0 where
   pub distinct : HaveDistinctHandles hs
   pub index : IsHolderIndex hs ps
   pub within : length hs ≤ room

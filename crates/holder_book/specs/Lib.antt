@@ -1,4 +1,5 @@
 pub mod Book
 pub mod Numbered
+pub mod HandleKey
 pub mod Index
 pub mod Kept

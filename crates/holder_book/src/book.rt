@@ -1,12 +1,11 @@
-ghost use Rattle.std.specs.Prelude.{◌≡◌, ◌^◌, ◌<◌, ◌≤◌, false, [], ◌∷◌, None, Some, length, slice_get, IfOk};
+ghost use Rattle.std.specs.Prelude.{◌≡◌, ◌≢◌, ◌^◌, ◌<◌, ◌≤◌, [], ◌∷◌, None, Some, length, slice_get, IfOk};
 ghost use Rattle.std.specs.List.{All};
 ghost use Rattle.std.specs.Ordering.{nat_cmp};
-ghost use Rattle.std.specs.Cmp.Lexicographic.{slice_cmp};
-ghost use Rattle.std.specs.Str.{bytes_eq};
 ghost use Rattle.page_dir.specs.Sorted.{Rises, rank};
 ghost use Rattle.page_dir.specs.Splices.{spliced};
 ghost use Rattle.reg_entry.specs.Holders.{holder_number, added_holder, edited_holder, HaveDistinctHandles};
 
+use crate::handle_key::handle_key;
 use crate::numbered::Numbered;
 use page_dir::PageDir;
 use page_dir::laws::{ranks_are_places, splices_rise};
@@ -19,8 +18,8 @@ use std::marker::Model;
 #[derive(Drop)]
 pub struct HolderBook {
     holders: Numbered,
-    // Their numbers under their handles.
-    numbers: PageDir<Handle, u32>,
+    // Their numbers under those of their handles.
+    numbers: PageDir<u128, u32>,
 }
 
 impl Model for HolderBook {
@@ -70,8 +69,9 @@ impl HolderBook {
         ensures number { result ≡ holder_number self.now.holders handle.now }
         ensures distinct { HaveDistinctHandles self.now.holders }
     {
-        let (found, number) = self.numbers.from(handle)?;
-        if found == *handle { Some(number) } else { None }
+        let key = handle_key(handle);
+        let (found, number) = self.numbers.from(&key)?;
+        if found == key { Some(number) } else { None }
     }
 
     /// The holder with this number, with the day on which its fields were last given.
@@ -93,7 +93,7 @@ impl HolderBook {
         ensures distinct { HaveDistinctHandles self.new.holders }
     {
         let number = self.holders.len();
-        enter(&mut self.numbers, &holder.handle, number);
+        enter(&mut self.numbers, handle_key(&holder.handle), number);
         self.holders.push(holder, day);
         number
     }
@@ -109,17 +109,17 @@ impl HolderBook {
     }
 }
 
-/// Puts a number under a handle that has none.
-fn enter(numbers: &mut PageDir<Handle, u32>, handle: &Handle, number: u32)
-    requires rises { Rises (slice_cmp nat_cmp) numbers.old.pairs }
-    requires absent { All (λ p. bytes_eq p.0 handle.now ≡ false) numbers.old.pairs }
+/// Puts a number under a key that isn't there.
+fn enter(numbers: &mut PageDir<u128, u32>, key: u128, number: u32)
+    requires rises { Rises nat_cmp numbers.old.pairs }
+    requires absent { All (λ p. p.0 ≢ key) numbers.old.pairs }
     requires room { length numbers.old.pairs < numbers.old.room }
-    ensures pairs { numbers.new.pairs ≡ spliced (rank (slice_cmp nat_cmp) handle.now numbers.old.pairs) 0 ((handle.now, number) ∷ []) numbers.old.pairs }
-    ensures rises { Rises (slice_cmp nat_cmp) numbers.new.pairs }
+    ensures pairs { numbers.new.pairs ≡ spliced (rank nat_cmp key numbers.old.pairs) 0 ((key, number) ∷ []) numbers.old.pairs }
+    ensures rises { Rises nat_cmp numbers.new.pairs }
     ensures room { numbers.new.room ≡ numbers.old.room }
 {
-    // Laws: the handles still rise, with the new one at its place.
-    splices_rise::<Handle, u32>();
-    ranks_are_places::<Handle, u32>();
-    numbers.replace_run(handle, 0, &[(*handle, number)]);
+    // Laws: the keys still rise, with the new one at its place.
+    splices_rise::<u128, u32>();
+    ranks_are_places::<u128, u32>();
+    numbers.replace_run(&key, 0, &[(key, number)]);
 }

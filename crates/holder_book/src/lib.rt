@@ -2,6 +2,7 @@
 #![tactic(auto)]
 
 mod book;
+mod handle_key;
 mod numbered;
 #[cfg(test)]
 mod tests;

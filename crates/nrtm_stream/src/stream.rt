@@ -69,7 +69,7 @@ fn append_kept(
     let Some(op) = board.op(serial) else {
         return Ok(());
     };
-    append_operation(op, source, body)?;
+    append_operation(&op, source, body)?;
     Ok(())
 }
 

@@ -3,7 +3,9 @@
 
 mod change_walk;
 pub mod laws;
+mod noted;
 #[cfg(test)]
 mod tests;
 
 pub use change_walk::{ChangeWalk, changes};
+pub use noted::{Brief, Noted};

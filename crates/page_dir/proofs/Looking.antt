@@ -9,11 +9,11 @@ use Rattle.std.proofs.lemmas.Bool.{cases_Bool}
 use Rattle.std.proofs.lemmas.List.{take-append-drop}
 use Rattle.std.proofs.lemmas.List.Sums.{prefix_len-le-length, prefix_len_passes, prefix_len_stops}
 use Rattle.std.proofs.lemmas.Option.{get_or_from_slice_get, none-some, same_Some, slice_get_within}
-use Rattle.page_dir.specs.Searching.{PassesAt}
+use Rattle.page_dir.specs.Searching.{IsDown, PassesAt}
 use Rattle.page_dir.specs.Sorted.{Rises, last_at_most, last_by, rank}
 use Rattle.page_dir.specs.Splices.{spliced}
 use Rattle.page_dir.specs.declared.locating.Side.TheVariants.{UpTo}
-use Rattle.page_dir.proofs.Places.{IsDown, down_from_rises}
+use Rattle.page_dir.proofs.Places.{down_from_rises}
 use Rattle.page_dir.proofs.Splicing.{slice_get-drop}
 use Rattle.page_dir.proofs.Rising.{rank_at, rises_right}
 

@@ -12,15 +12,12 @@ use Rattle.std.proofs.lemmas.Cmp.{alike_right}
 use Rattle.page_dir.specs.declared.locating.Side.{Side}
 use Rattle.page_dir.specs.declared.locating.Side.TheVariants.{Below, UpTo}
 use Rattle.page_dir.specs.Pages.{joined, page_of}
-use Rattle.page_dir.specs.Searching.{FailsAt, IsTurn, PassesAt, stands_before}
+use Rattle.page_dir.specs.Searching.{FailsAt, IsDown, IsTurn, PassesAt, stands_before}
 use Rattle.page_dir.specs.Sorted.{Rises}
 use Rattle.page_dir.specs.Spread.{start}
 use Rattle.page_dir.proofs.Joining.{start_next, joined-split}
+use Rattle.page_dir.proofs.Starts.{start_rises}
 use Rattle.page_dir.proofs.Splicing.{slice_get-append_left, slice_get-append_right}
-
--- where an item passes, all before it do
-abbrev pub IsDown : {T : Type 0} → (T → Bool) → List T → Type 0
-IsDown test ts = (i j : ℕ) → i ≤ j → PassesAt test ts j → PassesAt test ts i
 
 pub prefix_by_turn : {T : Type 0} (test : T → Bool) (ts : List T) (n : ℕ) → n ≤ length ts → ((i : ℕ) → i < n → PassesAt test ts i)
     → (n < length ts → FailsAt test ts n) → prefix_len test ts ≡ n
@@ -94,6 +91,27 @@ module _ {T : Type 0} (test : T → Bool) (ps : List (List T)) (filled : (i : �
           | inr over' ↦ (let e : length (joined (drop (page + 1) ps)) ≡ 0 = ap (λ qs. length (joined qs)) (drop_all (page + 1) ps over') in absurd (omega (arith, whole, sum, end, turn.within, e)))
         ]
       ]))
+
+  passes_within : (ts : List T) (i : ℕ) → PassesAt test ts i → i < length ts
+  passes_within [] i h = absurd h
+  passes_within (t ∷ ts) zero h = omega arith
+  passes_within (t ∷ ts) (suc i) h = let rest = passes_within ts i h in omega (arith, rest)
+
+  passes_in_page : (i j : ℕ) → i < length ps → j < length (page_of ps i) → PassesAt test (joined ps) (start ps i + j) → PassesAt test (page_of ps i) j
+  passes_in_page i j h inside p = subst (λ o. IsSomeAnd o (λ t. test t ≡ true)) (joined_at ps i j h inside) p
+
+  -- so it is within a page
+  pub down_in_page : (page : ℕ) → page < length ps → IsDown test (joined ps) → IsDown test (page_of ps page)
+  down_in_page page h down i j le p =
+      let inside = passes_within (page_of ps page) j p in
+      passes_in_page page i h (omega (arith, inside)) (down (start ps page + i) (start ps page + j) (omega arith) (passes_joined page j h inside p))
+
+  -- and of the first items of pages
+  pub down_of_pages : IsDown test (joined ps) → (i j : ℕ) → i ≤ j → j < length ps → PassesAt test (page_of ps j) 0 → PassesAt test (page_of ps i) 0
+  down_of_pages down i j le h p =
+      let rising = start_rises ps i j le in
+      passes_in_page i 0 (omega arith) (filled i (omega arith))
+      (down (start ps i + 0) (start ps j + 0) (omega (arith, rising)) (passes_joined j 0 h (filled j h) p))
 
 -- what stands before a place among rising keys is a front
 pub less_from : (r : Ordering) → is_lt r ≡ true → r ≡ Less

@@ -34,7 +34,7 @@ page_at pool order i slot page h at there =
     get_or-map (λ s. or_empty (held pool s)) order i slot [] h ∙ ap (λ s. or_empty (held pool s)) (sym at) ∙ ap or_empty there
 
 -- a pool whose pages are all vacant
-pub no_spread : {K V : Type 0} (pool : List (Option (List (K × V)))) (order : List ℕ) (firsts : List K) (n a f b : ℕ) → pool ≡ replicate n None → order ≡ []
+pub no_spread : {K V : Type 0} (pool : List (Option (List (K × V)))) (order : List ℕ) (firsts : List (K × Unit {0})) (n a f b : ℕ) → pool ≡ replicate n None → order ≡ []
     → firsts ≡ [] → n ≤ a → n ≤ f → 64 ≤ b → IsSpread pool order firsts a f b
 no_spread {K} {V} pool order firsts n a f b vacant none no_firsts fits firsts_fit more = rw (vacant, none, no_firsts) (record {
   each = λ k. sym (ap presence (none_held {T = List (K × V)} n k));
@@ -45,11 +45,11 @@ no_spread {K} {V} pool order firsts n a f b vacant none no_firsts fits firsts_fi
   tail_room = more;
 })
 
-pub slots_differ : {K V : Type 0} {pool : List (Option (List (K × V)))} {order : List ℕ} {firsts : List K} {a f b : ℕ}
+pub slots_differ : {K V : Type 0} {pool : List (Option (List (K × V)))} {order : List ℕ} {firsts : List (K × Unit {0})} {a f b : ℕ}
     → IsSpread pool order firsts a f b → AreDistinct order
 slots_differ {K} {V} {pool} s slot = let one = presence-le-one (held pool slot) in omega (arith, s.each slot, one)
 
-pub pages_within : {K V : Type 0} {pool : List (Option (List (K × V)))} {order : List ℕ} {firsts : List K} {a f b : ℕ}
+pub pages_within : {K V : Type 0} {pool : List (Option (List (K × V)))} {order : List ℕ} {firsts : List (K × Unit {0})} {a f b : ℕ}
     → IsSpread pool order firsts a f b → (i : ℕ) → length (page_of (pages_at pool order) i) ≤ 64
 pages_within {K} {V} {pool} {order} s i = elim (cases_lt i (length order)) [
   | inl h ↦ subst (λ page. length page ≤ 64) (sym (get_or-map (λ slot. or_empty (held pool slot)) order i 0 [] h)) (s.within (get_or order i 0))
@@ -106,7 +106,7 @@ module _ {K V : Type 0} (pool : List (Option (List (K × V)))) (slot : ℕ) (old
   pub written_there : held (set pool slot (Some new)) slot ≡ Some new
   written_there = cell_there pool slot (Some new) (Some old) (cell_at_held pool slot old live)
 
-  pub spread_written : {order : List ℕ} {firsts : List K} {a f b f' b' : ℕ} (keys : List K) → IsSpread pool order firsts a f b
+  pub spread_written : {order : List ℕ} {firsts : List (K × Unit {0})} {a f b f' b' : ℕ} (keys : List (K × Unit {0})) → IsSpread pool order firsts a f b
       → BeginWith keys (pages_at (set pool slot (Some new)) order) → length new ≤ 64 → f ≤ f' → 64 ≤ b'
       → IsSpread (set pool slot (Some new)) order keys a f' b'
   spread_written keys s begin few firsts_more more =
@@ -120,7 +120,7 @@ module _ {K V : Type 0} (pool : List (Option (List (K × V)))) (slot : ℕ) (old
         tail_room = more;
       }
 
-  pub pages_written : {order : List ℕ} {firsts : List K} {a f b : ℕ} (i d : ℕ) → IsSpread pool order firsts a f b → i < length order → get_or order i d ≡ slot
+  pub pages_written : {order : List ℕ} {firsts : List (K × Unit {0})} {a f b : ℕ} (i d : ℕ) → IsSpread pool order firsts a f b → i < length order → get_or order i d ≡ slot
       → pages_at (set pool slot (Some new)) order ≡ set (pages_at pool order) i new
   pages_written {order} i d s h at =
       let was = cell_at_held pool slot old live in
@@ -129,7 +129,7 @@ module _ {K V : Type 0} (pool : List (Option (List (K × V)))) (slot : ℕ) (old
 
 -- a vacant page that comes into use
 module _ {K V : Type 0} (pool : List (Option (List (K × V)))) (slot : ℕ) (new : List (K × V)) (vacant : IsVacant pool slot) where
-  pub spread_added : {order : List ℕ} {firsts : List K} {a f b a' f' : ℕ} (i : ℕ) (keys : List K) → IsSpread pool order firsts a f b
+  pub spread_added : {order : List ℕ} {firsts : List (K × Unit {0})} {a f b a' f' : ℕ} (i : ℕ) (keys : List (K × Unit {0})) → IsSpread pool order firsts a f b
       → BeginWith keys (pages_at (set pool slot (Some new)) (insert order i slot)) → length new ≤ 64 → i ≤ length order → a ≤ a' → f ≤ f'
       → IsSpread (set pool slot (Some new)) (insert order i slot) keys a' f' b
   spread_added {order} i keys s begin few h more firsts_more =
@@ -147,7 +147,7 @@ module _ {K V : Type 0} (pool : List (Option (List (K × V)))) (slot : ℕ) (new
         tail_room = s.tail_room;
       }
 
-  pub pages_added : {order : List ℕ} {firsts : List K} {a f b : ℕ} (i : ℕ) → IsSpread pool order firsts a f b
+  pub pages_added : {order : List ℕ} {firsts : List (K × Unit {0})} {a f b : ℕ} (i : ℕ) → IsSpread pool order firsts a f b
       → pages_at (set pool slot (Some new)) (insert order i slot) ≡ insert (pages_at pool order) i new
   pages_added {order} i s =
       let absent : times slot order ≡ 0 = s.each slot ∙ ap presence (cell_before pool slot (Some new) None vacant) in
@@ -158,7 +158,7 @@ module _ {K V : Type 0} (pool : List (Option (List (K × V)))) (slot : ℕ) (new
 
 -- a page that goes out of use
 module _ {K V : Type 0} (pool : List (Option (List (K × V)))) (slot : ℕ) (old : List (K × V)) (live : held pool slot ≡ Some old) where
-  pub spread_removed : {order : List ℕ} {firsts : List K} {a f b a' f' : ℕ} (i d : ℕ) (keys : List K) → IsSpread pool order firsts a f b
+  pub spread_removed : {order : List ℕ} {firsts : List (K × Unit {0})} {a f b a' f' : ℕ} (i d : ℕ) (keys : List (K × Unit {0})) → IsSpread pool order firsts a f b
       → BeginWith keys (pages_at (set pool slot None) (remove order i)) → i < length order → get_or order i d ≡ slot → a ≤ a' → f ≤ f'
       → IsSpread (set pool slot None) (remove order i) keys a' f' b
   spread_removed {order} i d keys s begin h at more firsts_more =
@@ -178,7 +178,7 @@ module _ {K V : Type 0} (pool : List (Option (List (K × V)))) (slot : ℕ) (old
         tail_room = s.tail_room;
       }
 
-  pub pages_removed : {order : List ℕ} {firsts : List K} {a f b : ℕ} (i d : ℕ) → IsSpread pool order firsts a f b → i < length order → get_or order i d ≡ slot
+  pub pages_removed : {order : List ℕ} {firsts : List (K × Unit {0})} {a f b : ℕ} (i d : ℕ) → IsSpread pool order firsts a f b → i < length order → get_or order i d ≡ slot
       → pages_at (set pool slot None) (remove order i) ≡ remove (pages_at pool order) i
   pages_removed {order} i d s h at =
       let was = cell_at_held pool slot old live in
@@ -189,7 +189,7 @@ module _ {K V : Type 0} (pool : List (Option (List (K × V)))) (slot : ℕ) (old
       ∙ map-remove (λ k. or_empty (held pool k)) order i
 
 -- a slot in use is a live one
-pub slot_lives : {K V : Type 0} (pool : List (Option (List (K × V)))) (order : List ℕ) (firsts : List K) (a f b i d : ℕ) → IsSpread pool order firsts a f b → i < length order
+pub slot_lives : {K V : Type 0} (pool : List (Option (List (K × V)))) (order : List ℕ) (firsts : List (K × Unit {0})) (a f b i d : ℕ) → IsSpread pool order firsts a f b → i < length order
     → (page : List (K × V)) × (held pool (get_or order i d) ≡ Some page)
 slot_lives pool order firsts a f b i d s h =
     let there = times_at order i d h in

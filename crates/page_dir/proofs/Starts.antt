@@ -10,7 +10,7 @@ start-le-all ps i =
     let sum = length-append (joined (take i ps)) (joined (drop i ps)) in
     omega (arith, whole, sum)
 
-start_rises : {T : Type 0} (ps : List (List T)) (i j : ℕ) → i ≤ j → start ps i ≤ start ps j
+pub start_rises : {T : Type 0} (ps : List (List T)) (i j : ℕ) → i ≤ j → start ps i ≤ start ps j
 start_rises [] zero zero h = omega arith
 start_rises [] zero (suc j) h = omega arith
 start_rises [] (suc i) zero h = absurd (omega arith)

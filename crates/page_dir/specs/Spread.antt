@@ -23,14 +23,14 @@ BeginsWith key [] = Unit {0}
 BeginsWith key (p ∷ ps) = p.0 ≡ key
 
 -- each of the pages begins with its key
-abbrev pub BeginWith : {K V : Type 0} → List K → List (List (K × V)) → Type 0
+abbrev pub BeginWith : {K V : Type 0} → List (K × Unit {0}) → List (List (K × V)) → Type 0
 BeginWith [] [] = Unit {0}
 BeginWith [] (page ∷ pages) = ⊥
 BeginWith (key ∷ keys) [] = ⊥
-BeginWith (key ∷ keys) (page ∷ pages) = BeginsWith key page × BeginWith keys pages
+BeginWith (key ∷ keys) (page ∷ pages) = BeginsWith key.0 page × BeginWith keys pages
 
 -- one equation for each slot says that the slots in use differ, and are the live ones; the first keys are those of the pages
-pub record IsSpread {K V : Type 0} (pool : List (Option (List (K × V)))) (order : List ℕ) (firsts : List K) (order_cap firsts_cap tail_cap : ℕ) : Type 0 where
+pub record IsSpread {K V : Type 0} (pool : List (Option (List (K × V)))) (order : List ℕ) (firsts : List (K × Unit {0})) (order_cap firsts_cap tail_cap : ℕ) : Type 0 where
   pub each : (slot : ℕ) → times slot order ≡ presence (held pool slot)
   pub within : (slot : ℕ) → length (or_empty (held pool slot)) ≤ 64
   pub begin : BeginWith firsts (pages_at pool order)

@@ -1,8 +1,8 @@
 //! Finding places by halving, first among the pages and then in one of them.
-ghost use Rattle.std.specs.Prelude.{◌≡◌, ℕ, ◌+◌, ◌-◌, ◌*◌, ◌^◌, ◌<◌, ◌≤◌, length};
+ghost use Rattle.std.specs.Prelude.{◌≡◌, ℕ, ◌+◌, ◌-◌, ◌*◌, ◌/◌, ◌^◌, ◌<◌, ◌≤◌, length};
 ghost use Rattle.std.specs.List.{prefix_len};
 ghost use Rattle.page_dir.specs.Pages.{HoldsEnough, joined, page_of};
-ghost use Rattle.page_dir.specs.Searching.{FailsAt, IsTurn, PassesAt, stands_before};
+ghost use Rattle.page_dir.specs.Searching.{FailsAt, IsDown, IsTurn, IsWindow, PassesAt, power_bound, stands_before};
 ghost use Rattle.page_dir.specs.Sorted.{Rises, rank};
 ghost use Rattle.page_dir.specs.Spread.{IsPlace, IsWalk, pages_in, start};
 
@@ -30,6 +30,114 @@ fn stands_before<K: Ord, L: Ledger>(key: &K, limit: &K, side: Side, steps: &mut 
     }
 }
 
+/// Some of the rows of a list, from one on. The place that is looked for is in front of the first of them or behind one.
+#[derive(Clone, Copy)]
+struct Window {
+    low: usize,
+    left: usize,
+}
+
+/// Halves a window that has more than one row.
+#[inline(always)]
+fn halve<K: Ord + Copy, V: Copy, L: Ledger>(
+    rows: &[(K, V)],
+    key: &K,
+    side: Side,
+    steps: &mut Steps<L>,
+    window: Window,
+) -> Window
+    requires down { IsDown (λ p. stands_before K.cmp side key.now p.0) rows.now }
+    requires window { IsWindow
+        (PassesAt (λ p. stands_before K.cmp side key.now p.0) rows.now)
+        (FailsAt (λ p. stands_before K.cmp side key.now p.0) rows.now)
+        (length rows.now) window.low window.left }
+    ensures window { IsWindow
+        (PassesAt (λ p. stands_before K.cmp side key.now p.0) rows.now)
+        (FailsAt (λ p. stands_before K.cmp side key.now p.0) rows.now)
+        (length rows.now) result.low result.left }
+    ensures fewer { result.left ≡ window.left - window.left / 2 }
+    ensures counted { steps.old ≤ steps.new }
+    ensures cost { 2 ^ (steps.new - steps.old) * power_bound result.left ≤ power_bound window.left }
+{
+    if window.left <= 1 {
+        return window;
+    }
+    let half = window.left / 2;
+    let middle = window.low + half;
+    let left = window.left - half;
+    if stands_before(&rows[middle].0, key, side, steps) {
+        Window { low: middle, left }
+    } else {
+        Window {
+            low: window.low,
+            left,
+        }
+    }
+}
+
+/// Halves a window six times. Here LLVM makes each choice of a half a conditional move; in a loop it would be a branch, and
+/// every second of those is mispredicted.
+#[inline(never)]
+fn halve_often<K: Ord + Copy, V: Copy, L: Ledger>(
+    rows: &[(K, V)],
+    key: &K,
+    side: Side,
+    steps: &mut Steps<L>,
+    window: Window,
+) -> Window
+    requires down { IsDown (λ p. stands_before K.cmp side key.now p.0) rows.now }
+    requires window { IsWindow
+        (PassesAt (λ p. stands_before K.cmp side key.now p.0) rows.now)
+        (FailsAt (λ p. stands_before K.cmp side key.now p.0) rows.now)
+        (length rows.now) window.low window.left }
+    ensures window { IsWindow
+        (PassesAt (λ p. stands_before K.cmp side key.now p.0) rows.now)
+        (FailsAt (λ p. stands_before K.cmp side key.now p.0) rows.now)
+        (length rows.now) result.low result.left }
+    ensures fewer { 1 < window.left → result.left < window.left }
+    ensures counted { steps.old ≤ steps.new }
+    ensures cost { 2 ^ (steps.new - steps.old) * power_bound result.left ≤ power_bound window.left }
+{
+    let halved = halve(rows, key, side, steps, window);
+    let twice = halve(rows, key, side, steps, halved);
+    let thrice = halve(rows, key, side, steps, twice);
+    let four_times = halve(rows, key, side, steps, thrice);
+    let five_times = halve(rows, key, side, steps, four_times);
+    halve(rows, key, side, steps, five_times)
+}
+
+/// How many rows stand before the place.
+fn rows_before<K: Ord + Copy, V: Copy, L: Ledger>(
+    rows: &[(K, V)],
+    key: &K,
+    side: Side,
+    steps: &mut Steps<L>,
+) -> usize
+    requires { IsDown (λ p. stands_before K.cmp side key.now p.0) rows.now }
+    ensures turn { IsTurn
+        (PassesAt (λ p. stands_before K.cmp side key.now p.0) rows.now)
+        (FailsAt (λ p. stands_before K.cmp side key.now p.0) rows.now)
+        (length rows.now) result }
+    ensures counted { steps.old ≤ steps.new }
+    ensures cost { 2 ^ (steps.new - steps.old) ≤ 2 * power_bound (length rows.now) }
+{
+    if rows.is_empty() {
+        return 0;
+    }
+    let mut window = Window {
+        low: 0,
+        left: rows.len(),
+    };
+    while window.left > 1 {
+        window = halve_often(rows, key, side, steps, window);
+    }
+    if stands_before(&rows[window.low].0, key, side, steps) {
+        window.low + 1
+    } else {
+        window.low
+    }
+}
+
 /// How many pages begin before the place.
 fn pages_before<K: Ord + Copy, V: Copy, L: Ledger>(
     spread: &Spread<K, V>,
@@ -37,51 +145,16 @@ fn pages_before<K: Ord + Copy, V: Copy, L: Ledger>(
     side: Side,
     steps: &mut Steps<L>,
 ) -> usize
-    requires { (i : ℕ) → i < length (pages_in spread.now) → 0 < length (page_of (pages_in spread.now) i) }
+    requires filled { (i : ℕ) → i < length (pages_in spread.now) → 0 < length (page_of (pages_in spread.now) i) }
+    requires down { IsDown (λ p. stands_before K.cmp side key.now p.0) (joined (pages_in spread.now)) }
     ensures turn { IsTurn
         (λ i. PassesAt (λ p. stands_before K.cmp side key.now p.0) (page_of (pages_in spread.now) i) 0)
         (λ i. FailsAt (λ p. stands_before K.cmp side key.now p.0) (page_of (pages_in spread.now) i) 0)
         (length (pages_in spread.now)) result }
     ensures counted { steps.old ≤ steps.new }
-    ensures cost { 2 ^ (steps.new - steps.old) ≤ 2 * length (pages_in spread.now) + 1 }
+    ensures cost { 2 ^ (steps.new - steps.old) ≤ 2 * power_bound (length (pages_in spread.now)) }
 {
-    let (mut low, mut high) = (0, spread.len());
-    while low < high {
-        let middle = low + (high - low) / 2;
-        if stands_before(spread.first_key(middle), key, side, steps) {
-            low = middle + 1;
-        } else {
-            high = middle;
-        }
-    }
-    low
-}
-
-/// How many pairs of a page stand before the place.
-fn pairs_before<K: Ord + Copy, V: Copy, L: Ledger>(
-    page: &[(K, V)],
-    key: &K,
-    side: Side,
-    steps: &mut Steps<L>,
-) -> usize
-    requires { length page.now ≤ 64 }
-    ensures turn { IsTurn
-        (PassesAt (λ p. stands_before K.cmp side key.now p.0) page.now)
-        (FailsAt (λ p. stands_before K.cmp side key.now p.0) page.now)
-        (length page.now) result }
-    ensures counted { steps.old ≤ steps.new }
-    ensures cost { 2 ^ (steps.new - steps.old) ≤ 2 * length page.now + 1 }
-{
-    let (mut low, mut high) = (0, page.len());
-    while low < high {
-        let middle = low + (high - low) / 2;
-        if stands_before(&page[middle].0, key, side, steps) {
-            low = middle + 1;
-        } else {
-            high = middle;
-        }
-    }
-    low
+    rows_before(spread.firsts(), key, side, steps)
 }
 
 /// The page and the place in it behind all pairs that stand before.
@@ -104,7 +177,7 @@ pub(crate) fn locate<K: Ord + Copy, V: Copy, L: Ledger>(
     if pages == 0 {
         return (0, 0);
     }
-    let at = pairs_before(spread.page(pages - 1), key, side, steps);
+    let at = rows_before(spread.page(pages - 1), key, side, steps);
     (pages - 1, at)
 }
 

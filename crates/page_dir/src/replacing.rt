@@ -112,6 +112,8 @@ fn cut<K: Copy, V: Copy>(spread: &mut Spread<K, V>, i: usize, n: usize)
     }
 }
 
+/// An empty list as a value of its own: where `&[]` stands among the arguments the borrow checker takes it for one of pairs
+/// that live no longer than the call.
 fn no_items<'a, T: Copy>() -> &'a [T]
     ensures { result.now ≡ [] }
 {

@@ -2,7 +2,7 @@ ghost use Rattle.std.specs.Prelude.{◌≡◌, ℕ, ◌+◌, ◌<◌, ◌≤◌,
 ghost use Rattle.std.specs.List.{insert, remove};
 ghost use Rattle.page_dir.specs.Pages.{AreDistinct, page_of};
 ghost use Rattle.page_dir.specs.Splices.{spliced};
-ghost use Rattle.page_dir.specs.Spread.{BeginsWith, pages_in};
+ghost use Rattle.page_dir.specs.Spread.{BeginWith, BeginsWith, pages_in};
 
 use crate::PagePool;
 use slot_pool::Slot;
@@ -15,8 +15,9 @@ use std::marker::Model;
 pub(crate) struct Spread<K: Copy, V: Copy> {
     pool: PagePool<(K, V)>,
     order: Vec<Slot>,
-    // The first key of each page in use that has a pair, so that a search over pages reads keys alone, in a row.
-    firsts: Vec<K>,
+    // The first key of each page in use that has a pair, so that a search over pages reads keys alone, in a row. Nothing
+    // stands behind a key: these are rows as a page has them, and one search serves both.
+    firsts: Vec<(K, ())>,
     tail: Vec<(K, V)>,
 }
 
@@ -75,12 +76,11 @@ impl<K: Copy, V: Copy> Spread<K, V> {
         self.pool.page(&self.order[i])
     }
 
-    /// The key with which a page in use begins, where it has a pair.
-    pub(crate) fn first_key(&self, i: usize) -> &K
-        requires { i < length (pages_in self.now) }
-        ensures { BeginsWith result.now (page_of (pages_in self.now) i) }
+    /// The keys with which the pages in use begin, where they have a pair.
+    pub(crate) fn firsts(&self) -> &[(K, ())]
+        ensures { BeginWith result.now (pages_in self.now) }
     {
-        &self.firsts[i]
+        &self.firsts
     }
 
     /// Each page has at most 64 items.
@@ -100,7 +100,7 @@ impl<K: Copy, V: Copy> Spread<K, V> {
     {
         let slot = self.order[i];
         self.pool.splice(&slot, at, n, new, &mut self.tail);
-        self.firsts[i] = first_key(self.pool.page(&slot), self.firsts[i]);
+        self.firsts[i] = (first_key(self.pool.page(&slot), self.firsts[i].0), ());
     }
 
     /// A vacant page comes into use with these items.
@@ -114,7 +114,7 @@ impl<K: Copy, V: Copy> Spread<K, V> {
     {
         let slot = self.pool.take(new);
         insert(&mut self.order, i, slot);
-        insert(&mut self.firsts, i, new[0].0);
+        insert(&mut self.firsts, i, (new[0].0, ()));
     }
 
     /// A page goes out of use, with all that it has.

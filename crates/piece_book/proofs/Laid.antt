@@ -1,9 +1,8 @@
 -- What is laid: what lies below stays, then comes the new piece between the rests of the run that gives way, and what lies
 -- above stays.
-use Rattle.std.proofs.Common.{◌≡◌, ℕ, ◌+◌, ◌-◌, ◌<◌, ◌≤◌, min, max, Bool, true, false, ◌&&◌, ◌==◌, cond, nat_lt, List, [], ◌∷◌, ◌++◌, Option, None, Some, option_to_list, inl, inr, refl, sym, ◌∙◌, ap, subst, arith, append_assoc}
-use Rattle.std.proofs.lemmas.Bool.{cases_Bool, cond-true, cond-false, and_parts, ltb-true, le-ltb, lt-ltb, eq-eqb, ne_eqb, ltb-false}
+use Rattle.std.proofs.Common.{◌≡◌, ℕ, ◌+◌, ◌-◌, ◌<◌, ◌≤◌, min, max, Bool, true, false, ◌&&◌, ◌==◌, nat_lt, List, [], ◌∷◌, ◌++◌, Option, None, Some, option_to_list, inl, inr, refl, sym, ◌∙◌, ap, arith, append_assoc}
+use Rattle.std.proofs.lemmas.Bool.{cases_Bool, cond-true, cond-false, and_parts, ltb-true, le-ltb, lt-ltb, eq-eqb, ne_eqb}
 use Rattle.std.proofs.lemmas.List.{append-nil}
-use Rattle.std.proofs.lemmas.List.Elements.{recursion_from_All, filter_passes}
 use Rattle.std.specs.List.{AllByRecursion, flat_map}
 use Rattle.num_range.specs.Range.{PlainRange}
 use Rattle.num_range.specs.declared.space.Space.{Space}
@@ -13,9 +12,9 @@ use Rattle.reg_entry.specs.declared.piece.Piece.{Piece}
 use Rattle.reg_entry.specs.Card.{is_available}
 use Rattle.reg_entry.specs.Pieces.{part_below, part_above, can_join, joined_pair, joined, joined_after, laid, RisesFrom, IsSettled, IsSettledAfter}
 use Rattle.reg_entry.proofs.Joining.{joined_after_of_settled}
-use Rattle.piece_book.specs.GivesWay.{both_available, reach, gives_way, giving_way, first_of, last_from, last_of, ending_at, starting_at, rest_below, new_first, new_card, rest_above, new_last, new_line}
+use Rattle.piece_book.specs.GivesWay.{both_available, reach, gives_way, first_of, last_from, last_of, ending_at, starting_at, rest_below, new_first, new_card, rest_above, new_last, new_line}
 use Rattle.piece_book.proofs.Exchanging.{rises_behind}
-use Rattle.piece_book.proofs.GivingWay.{LiesBelow, LiesAbove, Parts, reach_small, way_given}
+use Rattle.piece_book.proofs.GivingWay.{LiesBelow, LiesAbove, reach_small, way_given}
 
 -- ---- the parts that are kept
 

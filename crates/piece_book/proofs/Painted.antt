@@ -1,16 +1,16 @@
 -- Painting exchanges the run that gives way for the new piece and its rests; no piece is in both, but one that is painted
 -- with its own card.
-use Rattle.std.proofs.Common.{◌≡◌, ℕ, ◌+◌, ◌-◌, ◌<◌, ◌≤◌, suc, zero, true, false, nat_lt, List, [], ◌∷◌, ◌++◌, length, get_or, Option, None, Some, option_to_list, Contains, ◌⊎◌, inl, inr, refl, sym, ◌∙◌, ap, subst, arith, length-append}
-use Rattle.std.proofs.lemmas.Bool.{cases_Bool, cond-true, cond-false, cond_both, and_parts, ltb-true, ltb-false}
+use Rattle.std.proofs.Common.{◌≡◌, ℕ, ◌+◌, ◌-◌, ◌<◌, ◌≤◌, suc, zero, true, false, nat_lt, List, [], ◌∷◌, ◌++◌, length, get_or, take, Option, None, Some, option_to_list, Contains, ◌⊎◌, inl, inr, refl, sym, ◌∙◌, ap, subst, arith, length-append}
+use Rattle.std.proofs.lemmas.Bool.{cases_Bool, cond-false, cond_both, and_parts, ltb-true, ltb-false}
 use Rattle.std.proofs.lemmas.List.Elements.{recursion_from_All, filter_passes, All-contains, Contains-append_cases}
 use Rattle.std.proofs.lemmas.List.{take_all}
 use Rattle.std.specs.List.{AllByRecursion}
 use Rattle.num_range.specs.declared.space.Space.{Space}
-use Rattle.num_range.specs.Range.{PlainRange, IsRange}
+use Rattle.num_range.specs.Range.{PlainRange}
 use Rattle.reg_entry.specs.declared.card.Card.{Card}
 use Rattle.reg_entry.specs.declared.card.Status.{Status}
 use Rattle.reg_entry.specs.declared.piece.Piece.{Piece}
-use Rattle.reg_entry.specs.Card.{is_available, plain_card}
+use Rattle.reg_entry.specs.Card.{is_available}
 use Rattle.reg_entry.specs.Pieces.{laid, RisesFrom, IsSettled, IsCard, IsInOnePieceOrNone, AllPiecesOf, ArePieces}
 use Rattle.piece_book.specs.GivesWay.{both_available, reach, gives_way, giving_way, first_of, last_from, last_of, ending_at, starting_at, rest_below, new_first, new_card, rest_above, new_last, new_line, line_of}
 use Rattle.piece_book.specs.Exchange.{IsExchange}
@@ -391,6 +391,30 @@ count_laid ps r s c low high first last count few h ordered e seams =
     let low_count = ap (λ (o : Option Piece). length (option_to_list o)) is.low_is in
     let high_count = ap (λ (o : Option Piece). length (option_to_list o)) is.high_is in
     omega (arith, is.count_is)
+
+-- they are two more at most
+pub laid_adds_two : (ps : List Piece) (r : PlainRange) (c : Card) → ArePieces r.space ps → r.first ≤ r.last → length (laid ps r c) ≤ length ps + 2
+laid_adds_two ps r c h ordered = of_run (giving_way r c.status ps) refl
+  where
+    rest_is_one : (o : Option Piece) → length (option_to_list o) ≤ 1
+    rest_is_one None = omega arith
+    rest_is_one (Some p) = omega arith
+
+    of_run : (run : List Piece) → giving_way r c.status ps ≡ run → length (laid ps r c) ≤ length ps + 2
+    of_run [] e =
+        let all = count_laid ps r c.status c None None r.first r.last 0 [] h ordered refl
+        (subst (λ run. AreSeams r c.status run None r.first None r.last 0 []) (sym e)
+        (record { low_is = refl; first_is = refl; high_is = refl; last_is = refl; count_is = refl; few_is = refl })) in
+        omega (arith, all)
+    of_run (p ∷ run) e =
+        let low = rest_below r c.status (Some p) in
+        let high = rest_above r c.status (Some (last_from p run)) in
+        let all = count_laid ps r c.status c low high (new_first r c.status (Some p)) (new_last r c.status (Some (last_from p run))) (length (p ∷ run)) (take 3 (p ∷ run)) h ordered refl
+        (subst (λ all. AreSeams r c.status all low (new_first r c.status (Some p)) high (new_last r c.status (Some (last_from p run))) (length (p ∷ run)) (take 3 (p ∷ run))) (sym e)
+        (record { low_is = refl; first_is = refl; high_is = refl; last_is = refl; count_is = refl; few_is = refl })) in
+        let one = rest_is_one low in
+        let two = rest_is_one high in
+        omega (arith, all, one, two)
 
 -- the line that is built from the seams
 abbrev line_from : PlainRange → Card → Option Piece → ℕ → Option Piece → ℕ → List Piece

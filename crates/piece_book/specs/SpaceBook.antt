@@ -1,5 +1,5 @@
 -- The pieces of one space, and how many there may be.
-use Rattle.std.specs.Prelude.{◌≡◌, ℕ, nat_le, List, [], ◌∷◌, Option, None, Some, if◌then◌else◌}
+use Rattle.std.specs.Prelude.{ℕ, nat_le, List, [], ◌∷◌, Option, None, Some, if◌then◌else◌}
 use Rattle.std.specs.Option.{option_or}
 use Rattle.num_range.specs.declared.space.Space.{Space}
 use Rattle.reg_entry.specs.declared.piece.Piece.{Piece}

@@ -1,4 +1,4 @@
-ghost use Rattle.std.specs.Prelude.{◌≡◌, ◌+◌, ◌^◌, ◌<◌, ◌≤◌, List, length, IfOk};
+ghost use Rattle.std.specs.Prelude.{◌≡◌, ◌+◌, ◌^◌, ◌<◌, ◌≤◌, nat_lt, cond, List, None, Some, length, IfOk};
 ghost use Rattle.std.specs.Option.{option_map};
 ghost use Rattle.reg_entry.specs.declared.card.Card.{Card};
 ghost use Rattle.reg_entry.specs.declared.piece.Piece.{Piece};
@@ -158,6 +158,22 @@ impl PieceBook {
     {
         let count = count_after(self.in_space(range.space()), range, status);
         self.elsewhere(range.space()) + count
+    }
+
+    /// How many pieces there would be in all once a card of the status was laid over the range, where there is no room for so
+    /// many. A card makes two pieces more at most, so they are counted only where the room is nearly taken.
+    pub fn overflow(&self, range: &Range, status: Status) -> Option<u32>
+        ensures { (c : Card) → c.status ≡ status → result ≡ cond
+            (nat_lt self.now.room (piece_count (with_pieces self.now.partition range.now.space (laid (pieces_in self.now.partition range.now.space) range.now c))))
+            (Some (piece_count (with_pieces self.now.partition range.now.space (laid (pieces_in self.now.partition range.now.space) range.now c)))) None }
+    {
+        self.are_pieces();
+        let _first = range.first();
+        if self.pieces() + 2 <= self.room {
+            return None;
+        }
+        let count = self.pieces_after(range, status);
+        if self.room < count { Some(count) } else { None }
     }
 
     /// In one space the pieces that go give way to those that come.

@@ -9,7 +9,7 @@ use std::marker::Model;
 /// The secret by which a hostmaster is known: 8 to 64 bytes in the form of a bearer token (RFC 6750 2.1).
 #[derive(Clone, Copy, Debug, PartialEq, Eq)]
 pub(crate) struct Token {
-    label: Label,
+    label: Label<96>,
 }
 
 impl Model for Token {

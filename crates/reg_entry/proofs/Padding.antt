@@ -8,13 +8,13 @@ padded_is_padded : (room : ℕ) (bytes zeros : List ℕ) → length bytes ≤ ro
     → length (bytes ++ zeros) ≡ room
 padded_is_padded room bytes zeros h e = length-append bytes zeros ∙ omega arith
 
-pub over_zeros : (bytes : List ℕ) → length bytes ≤ 96 → IsPadded (bytes ++ drop (length bytes) (replicate 96 0)) (length bytes)
-over_zeros bytes h =
-    let zeros : List ℕ = replicate (96 - length bytes) 0 in
-    let e : bytes ++ drop (length bytes) (replicate 96 0) ≡ bytes ++ zeros = ap (λ zs. bytes ++ zs) (drop-replicate (length bytes) 96 0) in
-    let P : List ℕ → Type 0 = λ array. IsPadded array (length bytes) in
+pub over_zeros : (room : ℕ) (bytes : List ℕ) → length bytes ≤ room → IsPadded room (bytes ++ drop (length bytes) (replicate room 0)) (length bytes)
+over_zeros room bytes h =
+    let zeros : List ℕ = replicate (room - length bytes) 0 in
+    let e : bytes ++ drop (length bytes) (replicate room 0) ≡ bytes ++ zeros = ap (λ zs. bytes ++ zs) (drop-replicate (length bytes) room 0) in
+    let P : List ℕ → Type 0 = λ array. IsPadded room array (length bytes) in
     subst P (sym e) (record {
       fits = h;
-      long = padded_is_padded 96 bytes zeros h (length-replicate (96 - length bytes) 0);
-      zeros = ap padded (take-append_seam bytes zeros);
+      long = padded_is_padded room bytes zeros h (length-replicate (room - length bytes) 0);
+      zeros = ap (padded room) (take-append_seam bytes zeros);
     })

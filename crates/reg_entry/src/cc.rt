@@ -7,7 +7,7 @@ use std::marker::Model;
 /// A country code of two capital letters (ISO 3166-1 alpha-2).
 #[derive(Clone, Copy, Debug, PartialEq, Eq, PartialOrd, Ord)]
 pub struct Cc {
-    label: Label,
+    label: Label<2>,
 }
 
 impl Model for Cc {

@@ -8,7 +8,7 @@ use std::marker::Model;
 /// The name under which a holder is known: a capital letter, then capitals, digits and `-`, 24 bytes at most.
 #[derive(Clone, Copy, Debug, PartialEq, Eq, PartialOrd, Ord)]
 pub struct Handle {
-    label: Label,
+    label: Label<24>,
 }
 
 impl Model for Handle {

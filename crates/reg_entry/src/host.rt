@@ -11,7 +11,7 @@ use std::marker::Model;
 /// with no `-` at either end (RFC 1123 2.1), parted by dots, 96 bytes at most.
 #[derive(Clone, Copy, Debug, PartialEq, Eq, PartialOrd, Ord)]
 pub struct Host {
-    label: Label,
+    label: Label<96>,
 }
 
 impl Model for Host {

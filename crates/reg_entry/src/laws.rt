@@ -91,7 +91,7 @@ pub fn numbers_lie_in_one_piece()
 /// Labels and keys compare as the definitions put them in order: labels, handles and names by their bytes, keys by class,
 /// then by handle or range.
 pub fn keys_are_in_order()
-    ensures labels { (a b : List ℕ) → is_lt (⟦<Label as Ord>⟧.cmp a b) ≡ bytes_before a b }
+    ensures labels { (a b : List ℕ) → is_lt (⟦<Label<24> as Ord>⟧.cmp a b) ≡ bytes_before a b }
     ensures handles { (a b : List ℕ) → is_lt (⟦<Handle as Ord>⟧.cmp a b) ≡ bytes_before a b }
     ensures names { (a b : List ℕ) → is_lt (⟦<Name as Ord>⟧.cmp a b) ≡ bytes_before a b }
     ensures keys { (a b : TheKey) → is_lt (⟦<Key as Ord>⟧.cmp a b) ≡ key_before a b }

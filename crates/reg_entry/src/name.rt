@@ -8,7 +8,7 @@ use std::marker::Model;
 /// The name of the registry or of one of its hostmasters: 1 to 24 small letters and digits.
 #[derive(Clone, Copy, Debug, PartialEq, Eq, PartialOrd, Ord)]
 pub struct Name {
-    label: Label,
+    label: Label<24>,
 }
 
 impl Model for Name {

@@ -9,7 +9,7 @@ use std::marker::Model;
 /// either end.
 #[derive(Clone, Copy, Debug, PartialEq, Eq, PartialOrd, Ord)]
 pub struct Text {
-    label: Label,
+    label: Label<96>,
 }
 
 impl Model for Text {

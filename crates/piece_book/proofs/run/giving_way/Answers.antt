@@ -1,4 +1,4 @@
-use Rattle.std.proofs.Common.{refl, sym, ◌∙◌, arith}
+use Rattle.std.proofs.Common.{sym, ◌∙◌, arith}
 use Rattle.piece_book.proofs.Collecting.{with_next, none_collected, count_within, one_more, one_past, rest_above}
 use Rattle.piece_book.proofs.run.giving_way.Goals as goal
 

@@ -1,4 +1,4 @@
-use Rattle.std.proofs.Common.{sym, length, arith, [], ◌∷◌}
+use Rattle.std.proofs.Common.{sym, arith, [], ◌∷◌}
 use Rattle.std.proofs.lemmas.List.{take_at}
 use Rattle.piece_book.proofs.run.keep_few.Goals as goal
 

@@ -1,5 +1,4 @@
 use Rattle.std.proofs.Common.{◌≡◌, ◌-◌, ◌≤◌, slice_get, ◌∙◌, ap, arith}
-use Rattle.std.specs.Option.{option_copied}
 use Rattle.reg_entry.specs.Operations.{PlainBoard}
 use Rattle.op_feed.specs.ReachedBoard.{first_kept}
 use Rattle.board.proofs.Taking.{find_serial, none_below, op_kept}
@@ -17,11 +16,11 @@ returns c =
     let serials = c.reached_boards_number_operations.ensures.serials b c.keeps_operations.ensures.reached in
     let few = c.reached_boards_number_operations.ensures.few b c.keeps_operations.ensures.reached in
     let low : first_kept b ≤ c.args.serial = (let l = c.if-serial-first.false in let e = c.kept-first.ensures.first in omega arith) in
-    let at : option_copied c.at.result ≡ slice_get b.kept (c.args.serial - first_kept b) =
+    let at : c.at.result ≡ slice_get b.kept (c.args.serial - first_kept b) =
     c.at.ensures
     ∙ ap (λ (x : PlainBoard). slice_get x.kept (c.args.serial - c.kept-first.result.0)) c.self.view_is
     ∙ ap (λ n. slice_get b.kept (c.args.serial - n)) c.kept-first.ensures.first in
     record {
       found = at ∙ find_serial (first_kept b) c.args.serial b.kept serials low;
-      kept = op_kept b c.args.serial (option_copied c.at.result) few low at;
+      kept = op_kept b c.args.serial c.at.result few low at;
     }

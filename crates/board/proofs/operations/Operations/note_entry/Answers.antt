@@ -2,19 +2,17 @@ use Rattle.std.proofs.Common.{◌+◌, ◌<◌, ◌∙◌, List, length, sym, ap
 use Rattle.reg_entry.specs.declared.object.Object.{Object}
 use Rattle.reg_entry.specs.declared.object.Act.{Act}
 use Rattle.reg_entry.specs.Entry.{PlainEntry}
-use Rattle.reg_entry.specs.Objects.{blocks_of}
-use Rattle.op_feed.specs.PieceChanges.{pieces_gone, pieces_come}
-use Rattle.op_feed.specs.EntryChanges.{dels, adds, entry_changes}
+use Rattle.op_feed.specs.EntryChanges.{entry_changes}
 use Rattle.board.specs.Noted.{all_noted}
-use Rattle.board.proofs.Noting.{sub_known, only_pieces, dels_are, adds_are, fits_first, fits_behind, noted_in_two}
+use Rattle.board.proofs.Noting.{changes_are, sub_known, only_pieces}
 use Rattle.board.proofs.operations.Operations.note_entry.Goals as goal
 
 pub note_sub-requires-clause-known : goal.note_sub-requires-clause-known
 note_sub-requires-clause-known c = sub_known _ c.args.subs.now.ranges c.in-SubReturn.range c.exact.result c.requires.subs c.exact.ensures
 
 -- what a request changes that touches pieces alone
-pub note_pieces-requires-clause-room : goal.note_pieces-requires-clause-room
-note_pieces-requires-clause-room c =
+pub note_changes-requires-clause-room : goal.note_changes-requires-clause-room
+note_changes-requires-clause-room c =
     let hs = c.args.holders.now.holders in
     let b = c.args.touched.now.before.items in
     let a = c.args.touched.now.after.items in
@@ -22,21 +20,7 @@ note_pieces-requires-clause-room c =
     let is = sym (ap (λ (e : PlainEntry). entry_changes hs c.args.subs.now.ranges c.args.reverse.now.ranges e.day b a e.request) c.entry.view_is)
     ∙ only_pieces hs c.args.subs.now.ranges c.args.reverse.now.ranges c.entry.inside.day b a c.entry.inside.request d.not-AddHolder d.not-EditHolder d.not-SubAssign
     d.not-SubReturn d.not-SetReverse d.not-ClearReverse d.not-Return in
-    fits_first c.args.self.now.serial (dels (blocks_of hs (pieces_gone b a))) (adds (blocks_of hs (pieces_come b a))) _ _ (dels_are hs b a)
-    (subst (λ (cs : List (Act × Object)). c.args.self.now.serial + length cs < 18446744073709551616) is c.requires.room)
-
-pub note_pieces-requires-in_default-clause-room : goal.note_pieces-requires-in_default-clause-room
-note_pieces-requires-in_default-clause-room c =
-    let hs = c.args.holders.now.holders in
-    let b = c.args.touched.now.before.items in
-    let a = c.args.touched.now.after.items in
-    let d = c.in_default in
-    let is = sym (ap (λ (e : PlainEntry). entry_changes hs c.args.subs.now.ranges c.args.reverse.now.ranges e.day b a e.request) c.entry.view_is)
-    ∙ only_pieces hs c.args.subs.now.ranges c.args.reverse.now.ranges c.entry.inside.day b a c.entry.inside.request d.not-AddHolder d.not-EditHolder d.not-SubAssign
-    d.not-SubReturn d.not-SetReverse d.not-ClearReverse d.not-Return in
-    fits_behind c.args.self.now c.note_pieces.new.self (dels (blocks_of hs (pieces_gone b a))) (adds (blocks_of hs (pieces_come b a))) _ _
-    (c.note_pieces.ensures ∙ ap (all_noted c.args.self.now) (dels_are hs b a)) (adds_are hs b a)
-    (subst (λ (cs : List (Act × Object)). c.args.self.now.serial + length cs < 18446744073709551616) is c.requires.room)
+    subst (λ (cs : List (Act × Object)). c.args.self.now.serial + length cs < 18446744073709551616) (is ∙ sym (changes_are hs b a)) c.requires.room
 
 pub returns-in_default : goal.returns-in_default
 returns-in_default c =
@@ -47,7 +31,4 @@ returns-in_default c =
     let is = sym (ap (λ (e : PlainEntry). entry_changes hs c.args.subs.now.ranges c.args.reverse.now.ranges e.day b a e.request) c.entry.view_is)
     ∙ only_pieces hs c.args.subs.now.ranges c.args.reverse.now.ranges c.entry.inside.day b a c.entry.inside.request d.not-AddHolder d.not-EditHolder d.not-SubAssign
     d.not-SubReturn d.not-SetReverse d.not-ClearReverse d.not-Return in
-    noted_in_two c.args.self.now c.note_pieces.new.self c.note_pieces-in_default.new.self (dels (blocks_of hs (pieces_gone b a))) (adds (blocks_of hs (pieces_come b a)))
-    (c.note_pieces.ensures ∙ ap (all_noted c.args.self.now) (dels_are hs b a))
-    (c.note_pieces-in_default.ensures ∙ ap (all_noted c.note_pieces.new.self) (adds_are hs b a))
-    ∙ sym (ap (all_noted c.args.self.now) is)
+    c.note_changes.ensures ∙ ap (all_noted c.args.self.now) (changes_are hs b a) ∙ sym (ap (all_noted c.args.self.now) is)

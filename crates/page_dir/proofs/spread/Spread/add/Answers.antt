@@ -17,11 +17,11 @@ invariant_of-self g c =
     let slot = c.take-slot.result in
     let new = c.args.new.now in
     let key = (get_or new 0 c.index-new-0.result).0 in
-    let begin : BeginWith (insert firsts c.args.i key) (pages_at (set pool slot (Some new)) (insert order c.args.i slot)) =
-    subst (BeginWith (insert firsts c.args.i key)) (sym (pages_added pool slot new c.take-slot.ensures.vacant c.args.i c.self.invariant))
-    (begin_inserted firsts (pages_at pool order) c.args.i key new c.self.invariant.begin (begins_at_first new c.index-new-0.result c.requires.some)) in
+    let begin : BeginWith (insert firsts c.args.i (key, tt)) (pages_at (set pool slot (Some new)) (insert order c.args.i slot)) =
+    subst (BeginWith (insert firsts c.args.i (key, tt))) (sym (pages_added pool slot new c.take-slot.ensures.vacant c.args.i c.self.invariant))
+    (begin_inserted firsts (pages_at pool order) c.args.i (key, tt) new c.self.invariant.begin (begins_at_first new c.index-new-0.result c.requires.some)) in
     rw (c.insert.ensures.items, c.insert-2.ensures.items, c.take-slot.ensures.taken) (
-    spread_added pool slot new c.take-slot.ensures.vacant c.args.i (insert firsts c.args.i key) c.self.invariant begin c.requires.few i
+    spread_added pool slot new c.take-slot.ensures.vacant c.args.i (insert firsts c.args.i (key, tt)) c.self.invariant begin c.requires.few i
     (omega (arith, c.insert.ensures.room)) (omega (arith, c.insert-2.ensures.room)))
 
 pub insert-requires-2-clause-place : goal.insert-requires-2-clause-place

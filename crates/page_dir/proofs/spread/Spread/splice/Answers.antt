@@ -55,12 +55,12 @@ invariant_of-self g c =
     let begins : BeginsWith c.first_key.result new =
     subst (λ (o : Option (List (g.row.K.Denot × g.row.V.Denot))). IfSome o (BeginsWith c.first_key.result))
     (sym c.page.ensures.items ∙ there) c.first_key.ensures in
-    let begin : BeginWith (set firsts c.args.i c.first_key.result) (pages_at (set pool slot (Some new)) order) =
-    subst (BeginWith (set firsts c.args.i c.first_key.result))
+    let begin : BeginWith (set firsts c.args.i (c.first_key.result, tt)) (pages_at (set pool slot (Some new)) order) =
+    subst (BeginWith (set firsts c.args.i (c.first_key.result, tt)))
     (sym (pages_written pool slot lives.0 new live c.args.i slot c.self.invariant i (sym c.index.ensures)))
-    (begin_set firsts (pages_at pool order) c.args.i c.first_key.result new c.self.invariant.begin begins) in
+    (begin_set firsts (pages_at pool order) c.args.i (c.first_key.result, tt) new c.self.invariant.begin begins) in
     rw c.splice.ensures.page (
-    spread_written pool slot lives.0 new live (set firsts c.args.i c.first_key.result) c.self.invariant begin
+    spread_written pool slot lives.0 new live (set firsts c.args.i (c.first_key.result, tt)) c.self.invariant begin
     (omega (arith, old, size, c.requires.fits)) (omega arith) c.splice.ensures.tail)
 
 pub returns-clause-pages : goal.returns-clause-pages

@@ -1,4 +1,4 @@
-use Rattle.std.proofs.Common.{◌≡◌, ◌-◌, ℕ, drop, sym, ◌∙◌, ap, arith}
+use Rattle.std.proofs.Common.{◌-◌, ℕ, drop, sym, ◌∙◌, ap, arith}
 use Rattle.piece_book.specs.Exchange.{begun_below}
 use Rattle.piece_book.specs.GivesWay.{giving_way}
 use Rattle.piece_book.proofs.Finding.{stay_before}

@@ -1,0 +1,8 @@
+//! The window of the change stream: its last operations, and how many there were in all.
+#![tactic(auto)]
+
+#[cfg(test)]
+mod tests;
+mod window;
+
+pub use window::OpWindow;
