@@ -1,4 +1,4 @@
-ghost use Rattle.std.specs.Prelude.{◌≡◌, ◌<◌, ◌^◌};
+ghost use Rattle.std.specs.Prelude.{◌≡◌, ◌<◌, ◌^◌, nat_le};
 ghost use Rattle.reg_entry.specs.Request.{IsSizedRequest};
 ghost use Rattle.load_gen.specs.Draw.{high_bits, asking, kind, rest, draw_day, drawn_address};
 ghost use Rattle.load_gen.specs.Drawn.{drawn_request};
@@ -82,6 +82,13 @@ impl Draw {
             Space::Ipv4,
             0x0a00_0000 + u128::from(self.rest() % (1 << 18)),
         )
+    }
+
+    /// Whether the request names the piece of the address. A delegation names none.
+    pub fn names_piece(&self) -> bool
+        ensures { result ≡ nat_le 5 (kind self.now) }
+    {
+        self.kind() >= 5
     }
 
     /// What is asked, where this is the piece of the address.

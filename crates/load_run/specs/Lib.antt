@@ -1,1 +1,2 @@
 pub mod Conserved
+pub mod Drawable

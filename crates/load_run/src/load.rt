@@ -1,5 +1,5 @@
 //! The register of a load.
-ghost use Rattle.std.specs.Prelude.{◌≡◌, ◌≤◌, ◌<◌, ◌+◌, ◌^◌, None, IfOk};
+ghost use Rattle.std.specs.Prelude.{◌≡◌, ◌≤◌, ◌<◌, ◌+◌, ◌^◌, true, None, IfOk};
 ghost use Rattle.reg_entry.specs.Decision.{IfAccepted};
 ghost use Rattle.reg_entry.specs.Next.{IsNextEntry};
 ghost use Rattle.reg_entry.specs.Request.{IsSizedRequest};
@@ -8,15 +8,23 @@ ghost use Rattle.policy_table.specs.Policy.{first_name};
 ghost use Rattle.load_gen.specs.Load.{new_load, after_reply, after_request, after_requests, drawn_piece, after_draw, loaded};
 ghost use Rattle.request_core.specs.Undated.{undated_refusal};
 ghost use Rattle.load_gen.specs.Opening.{opening_requests};
+ghost use Rattle.load_run.specs.Drawable.{HasAllDrawn};
 
 use board::Board;
+use load_gen::laws::delegations_name_no_piece;
 use load_gen::{Draw, Draws, FIRST_DAY, OPENING_REQUESTS, opening_request};
-use num_range::Range;
+use num_range::{Number, Range, Space};
 use policy_table::Policy;
 use reg_entry::{Reply, Request, Rooms};
+use reg_laws::reached::next_entries_conserve;
 use request_core::{decide_on_day, undated_refusal};
 use std::alloc::{AllocError, Global};
 use std::marker::Model;
+
+/// The first and the last of the addresses that may be drawn, 10.0.0.0 and 10.3.255.255.
+const FIRST_ADDRESS: u128 = 0x0a00_0000;
+
+const LAST_ADDRESS: u128 = 0x0a03_ffff;
 
 /// A load under way, for the first hostmaster of a policy. Making one takes memory, and nothing after that does.
 #[derive(Drop)]
@@ -24,15 +32,22 @@ pub(crate) struct Load<'a> {
     board: Board,
     refused: u64,
     policy: &'a Policy,
+    // Whether each address that may be drawn is in the pool. Where it is so it stays so, and the piece of an address need be
+    // looked up for a request alone that names it.
+    drawable: bool,
 }
 
 impl<'a> Model for Load<'a> {
     ghost use Rattle.policy_table.specs.Policy.{first_name};
     ghost use Rattle.load_gen.specs.Load.{PlainLoad};
+    ghost use Rattle.load_run.specs.Drawable.{HasAllDrawn};
+    ghost use Rattle.std.specs.Prelude.{◌≡◌, true};
 
     ghost Value = { PlainLoad };
 
     ghost view = { λ l. record { register = l.board.register; refused = l.refused; policy = l.policy.now; who = first_name l.policy.now.hostmasters } };
+
+    ghost invariant = { λ l. l.drawable ≡ true → HasAllDrawn l.board.register.pool };
 }
 
 impl<'a> Load<'a> {
@@ -45,6 +60,7 @@ impl<'a> Load<'a> {
             board: Board::with_room(alloc, rooms)?,
             refused: 0,
             policy,
+            drawable: false,
         })
     }
 
@@ -55,6 +71,9 @@ impl<'a> Load<'a> {
         ensures load { self.new ≡ after_reply self.old reply.now }
         ensures few { self.new.refused ≤ self.old.refused + 1 }
     {
+        // A law, for the addresses that may be drawn: no number leaves the pool.
+        next_entries_conserve();
+        self.board.is_whole();
         match reply {
             Reply::Accepted(entry) => self.board.apply(entry),
             Reply::Refused(_) => self.refused += 1,
@@ -95,12 +114,44 @@ impl<'a> Load<'a> {
         Some(piece.range)
     }
 
+    /// Whether one piece has all addresses that may be drawn.
+    fn has_addresses(&self) -> bool
+        ensures { result ≡ true → HasAllDrawn self.now.register.pool }
+    {
+        let first = Number::of(Space::Ipv4, FIRST_ADDRESS);
+        match self.board.pieces().piece_at(first) {
+            Some(piece) => LAST_ADDRESS <= piece.range.last(),
+            None => false,
+        }
+    }
+
+    /// Looks whether each address that may be drawn is in the pool.
+    fn look_for_addresses(&mut self)
+        ensures { self.new ≡ self.old }
+    {
+        self.drawable = self.has_addresses();
+    }
+
+    /// Whether it is known that each address that may be drawn is in the pool.
+    fn is_drawable(&self) -> bool
+        ensures { result ≡ true → HasAllDrawn self.now.register.pool }
+    {
+        self.drawable
+    }
+
     /// Asks what is drawn.
     fn draw(&mut self, draw: &Draw)
         requires few { self.old.refused + 1 < 2 ^ 64 }
         ensures load { self.new ≡ after_draw self.old draw.now }
         ensures few { self.new.refused ≤ self.old.refused + 1 }
     {
+        if self.is_drawable() && !draw.names_piece() {
+            // A law: the request is the same whatever the piece.
+            delegations_name_no_piece();
+            let unnamed = Range::between(Space::Ipv4, FIRST_ADDRESS, LAST_ADDRESS);
+            self.ask(draw.day(), &draw.request(unnamed));
+            return;
+        }
         if let Some(piece) = self.piece_of(draw) {
             self.ask(draw.day(), &draw.request(piece));
         }
@@ -131,6 +182,7 @@ fn open(alloc: Global, rooms: Rooms, policy: &Policy) -> Result<Load<'_>, AllocE
     for i in 0..OPENING_REQUESTS {
         load.ask(FIRST_DAY, &opening_request(i));
     }
+    load.look_for_addresses();
     Ok(load)
 }
 

@@ -7,7 +7,7 @@ use Rattle.std.proofs.lemmas.Bool.Decides.{nat_tests}
 use Rattle.std.proofs.lemmas.Nat.{pow-add}
 use Rattle.std.proofs.Math.Nat.{mul-le-mul_left, one-le-pow}
 use Rattle.std.proofs.lemmas.Option.{slice_get-get_or}
-use Rattle.page_dir.specs.Searching.{FailsAt, IsDown, PassesAt, power_bound}
+use Rattle.page_dir.specs.Searching.{FailsAt, IsDown, IsHalved, PassesAt, power_bound}
 
 bound_of_one : (count : ℕ) → count ≤ 1 → power_bound count ≡ 1
 bound_of_one count h = grind (arith, nat_tests)
@@ -61,6 +61,22 @@ cost_of_all first then last count left le e few cost =
     let one = ap (λ k. 2 ^ (then - first) * k) (bound_of_one left few) in
     omega (arith, power, one, cost)
 
+twice : (initial steps : ℕ) → initial ≤ steps → 2 ^ (steps + 1 - initial) ≡ 2 * 2 ^ (steps - initial)
+twice initial steps h = let e : steps + 1 - initial ≡ suc (steps - initial) = omega arith in ap (λ k. 2 ^ k) e ∙ omega (arith, pow-suc 2 (steps - initial))
+
+halved : (power left left' all : ℕ) → IsHalved power left all → 0 < left → left' + left' ≤ left → IsHalved (2 * power) left' all
+halved power left left' all h more less =
+    let small = mul-le-mul_left power less in
+    let sum : power * (left' + left') ≡ 2 * power * left' = grind arith in
+    let one : power * 1 ≤ power * left = mul-le-mul_left power more in
+    record { rest = omega (arith, small, sum, h.rest); spent = omega (arith, one, h.rest) }
+
+pub halved_after : (initial steps steps' left left' all : ℕ) → initial ≤ steps → steps' ≡ steps + 1 → IsHalved (2 ^ (steps - initial)) left all
+    → 0 < left → left' + left' ≤ left → IsHalved (2 ^ (steps' - initial)) left' all
+halved_after initial steps steps' left left' all h e was more less =
+    subst (λ power. IsHalved power left' all) (sym (ap (λ k. 2 ^ (k - initial)) e ∙ twice initial steps h))
+    (halved (2 ^ (steps - initial)) left left' all was more less)
+
 pub read_at : {T : Type 0} (test : T → Bool) (ts : List T) (i : ℕ) (d : T) (b : Bool) → i < length ts → test (get_or ts i d) ≡ b
     → IsSomeAnd (slice_get ts i) (λ x. test x ≡ b)
 read_at test ts i d b h is = subst (λ o. IsSomeAnd o (λ x. test x ≡ b)) (sym (slice_get-get_or ts i d h)) is
@@ -100,16 +116,12 @@ below_256 k h = elim (cases_lt k 8) [
 ]
 
 -- halving pages and then a page
-pub both_halved : (first then last pages page items : ℕ) → first ≤ then → then ≤ last → 2 ^ (then - first) ≤ 2 * power_bound pages → 2 ^ (last - then) ≤ 2 * power_bound page
+pub both_halved : (first then last pages page items : ℕ) → first ≤ then → then ≤ last → 2 ^ (then - first) ≤ 2 * power_bound pages → 2 ^ (last - then) ≤ 2 * page + 1
     → page ≤ 64 → pages ≤ items → 2 ^ (last - first) ≤ 256 * (2 * items + 1)
 both_halved first then last pages page items le le' one two small few =
     let sum : last - first ≡ (then - first) + (last - then) = omega arith in
     let power = ap (λ k. 2 ^ k) sum ∙ pow-add 2 (then - first) (last - then) in
-    let in_page : power_bound page ≤ 126 = elim (cases_lt 1 page) [
-      | inl h ↦ (let e = bound_of_more page h in omega (arith, e))
-      | inr h ↦ (let e = bound_of_one page (omega arith) in omega (arith, e))
-    ] in
-    let most = below_256 (last - then) (omega (arith, two, in_page)) in
+    let most = below_256 (last - then) (omega (arith, two, small)) in
     let bound = mul-le-mul_left (2 ^ (then - first)) most in
     let all = bound_within pages in
     omega (arith, power, bound, one, few, all)

@@ -100,13 +100,7 @@ module _ {T : Type 0} (test : T → Bool) (ps : List (List T)) (filled : (i : �
   passes_in_page : (i j : ℕ) → i < length ps → j < length (page_of ps i) → PassesAt test (joined ps) (start ps i + j) → PassesAt test (page_of ps i) j
   passes_in_page i j h inside p = subst (λ o. IsSomeAnd o (λ t. test t ≡ true)) (joined_at ps i j h inside) p
 
-  -- so it is within a page
-  pub down_in_page : (page : ℕ) → page < length ps → IsDown test (joined ps) → IsDown test (page_of ps page)
-  down_in_page page h down i j le p =
-      let inside = passes_within (page_of ps page) j p in
-      passes_in_page page i h (omega (arith, inside)) (down (start ps page + i) (start ps page + j) (omega arith) (passes_joined page j h inside p))
-
-  -- and of the first items of pages
+  -- so the first items of pages do
   pub down_of_pages : IsDown test (joined ps) → (i j : ℕ) → i ≤ j → j < length ps → PassesAt test (page_of ps j) 0 → PassesAt test (page_of ps i) 0
   down_of_pages down i j le h p =
       let rising = start_rises ps i j le in

@@ -39,3 +39,8 @@ pub record IsWindow (passes fails : ℕ → Type 0) (count low left : ℕ) : Typ
 -- 2 to the number of the halvings that leave one place of so many is at most this
 abbrev pub power_bound : ℕ → ℕ
 power_bound count = if nat_le count 1 then 1 else 2 * (count - 1)
+
+-- after halvings: 2 to their number, the places left, and the places in all
+pub record IsHalved (power left all : ℕ) : Type 0 where
+  pub rest : power * left ≤ all
+  pub spent : power ≤ 2 * all + 1

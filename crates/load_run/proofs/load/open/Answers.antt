@@ -13,5 +13,6 @@ loop-i-preserved c = record {
 
 pub returns-clause-load : goal.returns-clause-load
 returns-clause-load c =
-    after_all _ c.loop-i.load opening_requests c.loop-i.i c.loop-i-test.false c.loop-i.invariant.leads
+    c.look_for_addresses.ensures
+    ∙ after_all _ c.loop-i.load opening_requests c.loop-i.i c.loop-i-test.false c.loop-i.invariant.leads
     ∙ ap (λ l. after_requests l opening_requests) c.in_ok-load.ensures
