@@ -5,7 +5,7 @@ ghost use Rattle.reg_entry.specs.Next.{IsNextEntry};
 ghost use Rattle.reg_entry.specs.Request.{IsSizedRequest};
 ghost use Rattle.reg_entry.specs.Rooms.{AreRooms};
 ghost use Rattle.policy_table.specs.Policy.{first_name};
-ghost use Rattle.load_gen.specs.Load.{new_load, after_reply, after_request, after_requests, drawn_piece, after_draw, loaded};
+ghost use Rattle.load_gen.specs.Load.{new_load, after_reply, after_request, after_requests, drawn_piece, after_draw, after_naming, loaded};
 ghost use Rattle.request_core.specs.Undated.{undated_refusal};
 ghost use Rattle.load_gen.specs.Opening.{opening_requests};
 ghost use Rattle.load_run.specs.Drawable.{HasAllDrawn};
@@ -139,20 +139,26 @@ impl<'a> Load<'a> {
         self.drawable
     }
 
+    /// A range with which the request of a draw is asked: any, where it names no piece and the pool is known to have the
+    /// address.
+    fn named_range(&self, draw: &Draw) -> Option<Range>
+        ensures { after_naming self.now draw.now result ≡ after_draw self.now draw.now }
+    {
+        if self.is_drawable() && !draw.names_piece() {
+            // A law: the request is the same whatever the piece.
+            delegations_name_no_piece();
+            return Some(Range::between(Space::Ipv4, FIRST_ADDRESS, LAST_ADDRESS));
+        }
+        self.piece_of(draw)
+    }
+
     /// Asks what is drawn.
     fn draw(&mut self, draw: &Draw)
         requires few { self.old.refused + 1 < 2 ^ 64 }
         ensures load { self.new ≡ after_draw self.old draw.now }
         ensures few { self.new.refused ≤ self.old.refused + 1 }
     {
-        if self.is_drawable() && !draw.names_piece() {
-            // A law: the request is the same whatever the piece.
-            delegations_name_no_piece();
-            let unnamed = Range::between(Space::Ipv4, FIRST_ADDRESS, LAST_ADDRESS);
-            self.ask(draw.day(), &draw.request(unnamed));
-            return;
-        }
-        if let Some(piece) = self.piece_of(draw) {
+        if let Some(piece) = self.named_range(draw) {
             self.ask(draw.day(), &draw.request(piece));
         }
     }
