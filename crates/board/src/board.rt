@@ -96,17 +96,24 @@ impl Board {
         requires { AreRooms rooms }
         ensures { IfOk result (λ board. board ≡ empty_board rooms) }
     {
+        // The books that own most come last, since a want of memory gives back what stands before.
+        let operations = Operations::with_window(alloc, rooms.window)?;
+        let holdings = HoldingBook::with_room(alloc, rooms.holders)?;
+        let subs = RangeBook::with_room(alloc, rooms.subs)?;
+        let reverse = RangeBook::with_room(alloc, rooms.reverse)?;
+        let holders = HolderBook::with_room(alloc, rooms.holders)?;
+        let pieces = PieceBook::with_room(alloc, rooms.pieces)?;
         Ok(Board {
-            pieces: PieceBook::with_room(alloc, rooms.pieces)?,
-            holders: HolderBook::with_room(alloc, rooms.holders)?,
-            subs: RangeBook::with_room(alloc, rooms.subs)?,
-            reverse: RangeBook::with_room(alloc, rooms.reverse)?,
-            holdings: HoldingBook::with_room(alloc, rooms.holders)?,
+            pieces,
+            holders,
+            subs,
+            reverse,
+            holdings,
             rooms,
             entries: 0,
             first_day: 0,
             last_day: 0,
-            operations: Operations::with_window(alloc, rooms.window)?,
+            operations,
         })
     }
 
