@@ -10,7 +10,7 @@ ghost use Rattle.reg_entry.specs.Covers.{first_number};
 ghost use Rattle.reg_entry.specs.Holders.{holder_number, edited_holder};
 ghost use Rattle.reg_entry.specs.Holdings.{gives_held, held_by, allocated_by, held_by_card, allocated_by_card};
 ghost use Rattle.reg_entry.specs.Pieces.{IsPoolRange};
-ghost use Rattle.reg_entry.specs.Ranges.{first_meeting, value_of_range};
+ghost use Rattle.reg_entry.specs.Ranges.{first_meeting, value_of_range, with_range};
 ghost use Rattle.reg_entry.specs.Register.{after_entry, card_of, painted, pool_after, holders_after, with_sub, subs_after, reverses_after};
 ghost use Rattle.op_feed.specs.TouchedBy.{IsTouchedBy};
 ghost use Rattle.board.specs.Painting.{CanBePainted};
@@ -211,11 +211,22 @@ pub(crate) fn change_reverse(reverse: &mut RangeBook<Servers>, request: &Request
     ensures room { reverse.new.room ≡ reverse.old.room }
 {
     match request {
-        Request::SetReverse { range, servers } => reverse.put(*range, *servers),
+        Request::SetReverse { range, servers } => set_servers(reverse, range, servers),
         Request::ClearReverse { range } => reverse.take_out(range),
         Request::Return { range, .. } => reverse.drop_inside(range),
         _ => {}
     }
+}
+
+/// Gives the range these servers. It isn't inlined where most entries pass by, as `operations` says.
+#[inline(never)]
+fn set_servers(reverse: &mut RangeBook<Servers>, range: &Range, servers: &Servers)
+    requires free { value_of_range reverse.old.ranges range.now ≡ None → first_meeting reverse.old.ranges range.now ≡ None }
+    requires room { value_of_range reverse.old.ranges range.now ≡ None → length reverse.old.ranges < reverse.old.room }
+    ensures ranges { reverse.new.ranges ≡ with_range reverse.old.ranges range.now servers.now }
+    ensures room { reverse.new.room ≡ reverse.old.room }
+{
+    reverse.put(*range, *servers);
 }
 
 /// So many more numbers of the range, which has the card, are used.

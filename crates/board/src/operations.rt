@@ -1,10 +1,16 @@
 //! The operations of the entries, of which a board keeps the last.
+//!
+//! A function makes room for all of its values when it is entered, whatever way it takes then, and fills that room with zeros.
+//! So what has a holder's fields or name servers is noted by functions of their own, which aren't inlined where most entries
+//! pass by.
 ghost use Rattle.std.specs.Prelude.{◌≡◌, ◌+◌, ◌-◌, ◌<◌, ◌≤◌, ◌^◌, [], ◌∷◌, ◌++◌, find, map, length, slice_get, option_copied, IfOk, IfSome};
 ghost use Rattle.std.specs.List.{AllByRecursion, flat_map};
 ghost use Rattle.std.specs.Option.{option_map_or};
 ghost use Rattle.reg_entry.specs.Holders.{handle_of, has_handle};
 ghost use Rattle.reg_entry.specs.Objects.{block_of_piece, blocks_of, sub_of, cuts_of};
-ghost use Rattle.reg_entry.specs.Ranges.{ranges_inside};
+ghost use Rattle.reg_entry.specs.declared.object.Act.TheVariants.{Add};
+ghost use Rattle.reg_entry.specs.declared.object.Object.TheVariants.{Org};
+ghost use Rattle.reg_entry.specs.Ranges.{ranges_inside, value_of_range};
 ghost use Rattle.op_feed.specs.PieceChanges.{pieces_gone, pieces_come, piece_changes};
 ghost use Rattle.op_feed.specs.EntryChanges.{dels, adds, edit_changes, server_changes, entry_changes};
 ghost use Rattle.board.specs.Noted.{noted, all_noted, all_block_changes, block_changes, HaveHolders};
@@ -68,6 +74,16 @@ impl Operations {
         self.window.note(act, object);
     }
 
+    /// Notes a new holder.
+    #[inline(never)]
+    fn note_holder(&mut self, holder: &Holder, day: u32)
+        requires { self.old.serial + 1 < 2 ^ 64 }
+        ensures { self.new ≡ noted self.old (Add, Org holder.now day) }
+    {
+        let holder = *holder;
+        self.note(Act::Add, Object::Org { holder, day });
+    }
+
     /// Notes the cuts of a reverse entry.
     fn note_cuts(&mut self, act: Act, range: &Range, servers: &Servers)
         requires { self.old.serial + length (cuts_of (range.now, servers.now)) < 2 ^ 64 }
@@ -80,6 +96,7 @@ impl Operations {
     }
 
     /// Notes that the reverse entries inside a range go.
+    #[inline(never)]
     fn note_dropped(&mut self, reverse: &RangeBook<Servers>, range: &Range)
         requires { self.old.serial + length (flat_map cuts_of (ranges_inside reverse.now.ranges range.now)) < 2 ^ 64 }
         ensures { self.new ≡ all_noted self.old (dels (flat_map cuts_of (ranges_inside reverse.now.ranges range.now))) }
@@ -94,11 +111,12 @@ impl Operations {
     }
 
     /// Notes that a range has name servers, where it had none or others.
-    fn note_servers(&mut self, former: &Option<Servers>, range: &Range, servers: &Servers)
-        requires { self.old.serial + length (server_changes range.now former.now servers.now) < 2 ^ 64 }
-        ensures { self.new ≡ all_noted self.old (server_changes range.now former.now servers.now) }
+    #[inline(never)]
+    fn note_servers(&mut self, reverse: &RangeBook<Servers>, range: &Range, servers: &Servers)
+        requires { self.old.serial + length (server_changes range.now (value_of_range reverse.now.ranges range.now) servers.now) < 2 ^ 64 }
+        ensures { self.new ≡ all_noted self.old (server_changes range.now (value_of_range reverse.now.ranges range.now) servers.now) }
     {
-        if let Some(former) = former {
+        if let Some(former) = &reverse.exact(range) {
             if servers == former {
                 return;
             }
@@ -107,20 +125,21 @@ impl Operations {
     }
 
     /// Notes a holder's fields, where it had others or had them since another day.
-    fn note_edit(&mut self, former: &Option<(Holder, u32)>, holder: &Holder, day: u32)
-        requires { self.old.serial + length (edit_changes former.now holder.now day) < 2 ^ 64 }
-        ensures { self.new ≡ all_noted self.old (edit_changes former.now holder.now day) }
+    #[inline(never)]
+    fn note_edit(&mut self, holders: &HolderBook, holder: &Holder, day: u32)
+        requires { self.old.serial + length (edit_changes (find (has_handle holder.now.handle) holders.now.holders) holder.now day) < 2 ^ 64 }
+        ensures { self.new ≡ all_noted self.old (edit_changes (find (has_handle holder.now.handle) holders.now.holders) holder.now day) }
     {
-        if let Some((former, former_day)) = former {
+        if let Some((former, former_day)) = &holder_named(holders, &holder.handle) {
             if holder != former || day != *former_day {
-                let holder = *holder;
-                self.note(Act::Add, Object::Org { holder, day });
+                self.note_holder(holder, day);
             }
         }
     }
 
     /// Notes that a sub goes.
-    fn note_sub(&mut self, holders: &HolderBook, range: &Range, sub: &Option<SubCard>)
+    #[inline(never)]
+    fn note_sub_gone(&mut self, holders: &HolderBook, range: &Range, sub: &Option<SubCard>)
         requires known { IfSome sub.now (λ card. card.holder < length holders.now.holders) }
         requires room { self.old.serial + length (option_map_or (λ card. dels (sub_of holders.now.holders (range.now, card) ∷ [])) sub.now []) < 2 ^ 64 }
         ensures { self.new ≡ all_noted self.old (option_map_or (λ card. dels (sub_of holders.now.holders (range.now, card) ∷ [])) sub.now []) }
@@ -151,38 +170,32 @@ impl Operations {
     {
         let day = entry.day;
         match &entry.request {
-            Request::AddHolder { holder } => {
-                let holder = *holder;
-                self.note(Act::Add, Object::Org { holder, day });
-            }
-            Request::EditHolder { holder } => {
-                self.note_edit(&holder_named(holders, &holder.handle), holder, day);
-            }
+            Request::AddHolder { holder } => self.note_holder(holder, day),
+            Request::EditHolder { holder } => self.note_edit(holders, holder, day),
             Request::SubAssign { range, handle } => {
-                let (range, handle) = (*range, *handle);
-                self.note(Act::Add, Object::Sub { range, handle, day });
+                self.window.note_sub(Act::Add, *range, *handle, day);
             }
-            Request::SubReturn { range } => self.note_sub(holders, range, &subs.exact(range)),
-            Request::SetReverse { range, servers } => {
-                self.note_servers(&reverse.exact(range), range, servers);
-            }
-            Request::ClearReverse { range } => self.note_cleared(&reverse.exact(range), range),
+            Request::SubReturn { range } => self.note_sub_gone(holders, range, &subs.exact(range)),
+            Request::SetReverse { range, servers } => self.note_servers(reverse, range, servers),
+            Request::ClearReverse { range } => self.note_cleared(reverse, range),
             Request::Return { range, .. } => self.note_return(holders, reverse, range, touched),
             _ => self.note_changes(touched, holders),
         }
     }
 
     /// Notes that the reverse entry of a range goes.
-    fn note_cleared(&mut self, former: &Option<Servers>, range: &Range)
-        requires { self.old.serial + length (option_map_or (λ servers. dels (cuts_of (range.now, servers))) former.now []) < 2 ^ 64 }
-        ensures { self.new ≡ all_noted self.old (option_map_or (λ servers. dels (cuts_of (range.now, servers))) former.now []) }
+    #[inline(never)]
+    fn note_cleared(&mut self, reverse: &RangeBook<Servers>, range: &Range)
+        requires { self.old.serial + length (option_map_or (λ servers. dels (cuts_of (range.now, servers))) (value_of_range reverse.now.ranges range.now) []) < 2 ^ 64 }
+        ensures { self.new ≡ all_noted self.old (option_map_or (λ servers. dels (cuts_of (range.now, servers))) (value_of_range reverse.now.ranges range.now) []) }
     {
-        if let Some(servers) = former {
+        if let Some(servers) = &reverse.exact(range) {
             self.note_cuts(Act::Del, range, servers);
         }
     }
 
     /// Notes that a range comes back, and that the reverse entries inside it go.
+    #[inline(never)]
     fn note_return(
         &mut self,
         holders: &HolderBook,

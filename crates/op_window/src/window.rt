@@ -69,8 +69,8 @@ impl OpWindow {
         })
     }
 
-    /// Notes one operation more, of a sub.
-    fn note_sub(&mut self, act: Act, range: Range, handle: Handle, day: u32)
+    /// Notes one operation more, of a sub. Where there is no room for it the first one goes.
+    pub fn note_sub(&mut self, act: Act, range: Range, handle: Handle, day: u32)
         requires { self.old.serial + 1 < 2 ^ 64 }
         ensures { self.new ≡ noted self.old (act, Sub range handle day) }
     {

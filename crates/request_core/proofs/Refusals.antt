@@ -52,6 +52,12 @@ pub late_is : (r : Register) (p : PlainPolicy) (day : ℕ) (who : List ℕ) (req
 late_is r p day who request e early same =
     refused_late r p day who request early ∙ ap (λ (d : PlainEntry). late_refusal r d) (sym same)
 
+pub refused_late_is : (r : Register) (p : PlainPolicy) (day : ℕ) (who : List ℕ) (request : Request) (e : PlainEntry) (refusal : Refusal)
+    → undated_refusal r p who request ≡ None → e ≡ proposed_entry r p day who request → late_refusal r e ≡ Some refusal
+    → decision r p day who request ≡ Refused refusal
+refused_late_is r p day who request e refusal early same late =
+    ap (λ (o : Option Refusal). reply_of o (proposed_entry r p day who request)) (late_is r p day who request e early same ∙ late)
+
 pub accepted_is : (r : Register) (p : PlainPolicy) (day : ℕ) (who : List ℕ) (request : Request) (e : PlainEntry)
     → undated_refusal r p who request ≡ None → e ≡ proposed_entry r p day who request → late_refusal r e ≡ None
     → decision r p day who request ≡ Accepted e

@@ -1,15 +1,13 @@
 ghost use Rattle.std.specs.Prelude.{◌≡◌, ℕ, None, IfNone, IfSome};
-ghost use Rattle.num_range.specs.Number.{PlainNumber};
-ghost use Rattle.reg_entry.specs.declared.request.Request.TheVariants.{Split};
 ghost use Rattle.reg_entry.specs.declared.entry.Reply.TheVariants.{Accepted, Refused};
-ghost use Rattle.reg_entry.specs.Decision.{decision, late_refusal, refusal_of, proposed_entry, IfAccepted};
+ghost use Rattle.reg_entry.specs.Decision.{decision, refusal_of, proposed_entry, IfAccepted};
 ghost use Rattle.reg_entry.specs.Next.{IsNextEntry};
 ghost use Rattle.reg_entry.specs.Covers.{IsLeastCover};
 ghost use Rattle.reg_entry.specs.Request.{IsSizedRequest};
 ghost use Rattle.request_core.specs.Undated.{undated_refusal};
 
 use crate::policy_rules::rule_refusal;
-use crate::proposal::proposed_entry;
+use crate::proposal::propose;
 use board::Board;
 use policy_table::Policy;
 use reg_entry::{Entry, Name, Refusal, Reply, Request};
@@ -33,14 +31,6 @@ pub fn undated_refusal(
     rule_refusal(board, policy, request)
 }
 
-/// Why the entry can't be made on its day, or nothing.
-fn late_refusal(board: &Board, e: &Entry) -> Option<Refusal>
-    requires split { (at : PlainNumber) → e.now.request ≡ Split at → e.now.card ≡ None }
-    ensures { result ≡ late_refusal board.now.register e.now }
-{
-    board.late_refusal(&e.request, e.day, &e.cover, &e.card)
-}
-
 /// Decides, on a day of the clock, a request that isn't refused whatever the day. It is a call of its own, so that a refusal
 /// before has no entry to make room for.
 pub fn decide_on_day(
@@ -58,15 +48,22 @@ pub fn decide_on_day(
     ensures next { IfAccepted result (IsNextEntry board.now.register) }
     ensures least { IfAccepted result (λ e. IsLeastCover board.now.register e.request e.cover) }
 {
-    let entry = proposed_entry(board, policy, day, who, request);
+    let proposal = propose(board, policy, day, request);
     // A law, for `next` and `least`, and what it asks of the board, the policy and the request.
     accepted_may_come_next();
     board.is_whole();
     policy.is_well_formed();
     request.has_ranges();
-    match late_refusal(board, &entry) {
+    match board.late_refusal(request, proposal.day, &proposal.cover, &proposal.card) {
         Some(refusal) => Reply::Refused(refusal),
-        None => Reply::Accepted(entry),
+        None => Reply::Accepted(Entry {
+            seq: proposal.seq,
+            day: proposal.day,
+            who: *who,
+            request: *request,
+            cover: proposal.cover,
+            card: proposal.card,
+        }),
     }
 }
 

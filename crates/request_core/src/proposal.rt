@@ -1,5 +1,5 @@
-//! The entry that a request becomes where nothing is against it.
-ghost use Rattle.std.specs.Prelude.{◌≡◌, None};
+//! What a request becomes where nothing is against it.
+ghost use Rattle.std.specs.Prelude.{◌≡◌, ℕ, List, None};
 ghost use Rattle.num_range.specs.Number.{PlainNumber};
 ghost use Rattle.reg_entry.specs.declared.request.Request.TheVariants.{Split};
 ghost use Rattle.reg_entry.specs.Covers.{chosen_start};
@@ -10,8 +10,9 @@ ghost use Rattle.reg_entry.specs.Request.{IsSizedRequest};
 
 use board::Board;
 use fit_search::{amounts_are_sought, least_block};
+use num_range::Range;
 use policy_table::Policy;
-use reg_entry::{Entry, LAST_DATE, Name, Request, clamped_day};
+use reg_entry::{Card, LAST_DATE, Request, clamped_day};
 
 /// So many days later, or the greatest day.
 fn days_later(day: u32, days: u32) -> u32
@@ -54,24 +55,27 @@ fn chosen_start(board: &Board, request: &Request) -> Option<u128>
     }
 }
 
-pub(crate) fn proposed_entry(
-    board: &Board,
-    policy: &Policy,
-    day: u32,
-    who: &Name,
-    request: &Request,
-) -> Entry
+/// What an entry would have, beside the request itself and who asks. An entry is large, so none is made before it is known
+/// to be accepted.
+#[derive(Clone, Copy)]
+pub(crate) struct Proposal {
+    pub seq: u64,
+    pub day: u32,
+    pub cover: Option<Range>,
+    pub card: Option<Card>,
+}
+
+pub(crate) fn propose(board: &Board, policy: &Policy, day: u32, request: &Request) -> Proposal
     requires { IsSizedRequest request.now }
-    ensures entry { result ≡ proposed_entry board.now.register policy.now day who.now request.now }
+    ensures entry { (who : List ℕ) → record { seq = result.seq; day = result.day; who = who; request = request.now; cover = result.cover; card = result.card }
+        ≡ proposed_entry board.now.register policy.now day who request.now }
     ensures split { (at : PlainNumber) → request.now ≡ Split at → result.card ≡ None }
 {
     let day = entry_day(board, day);
     let until = until_for(policy, request, day);
-    Entry {
+    Proposal {
         seq: board.entries() + 1,
         day,
-        who: *who,
-        request: *request,
         cover: board.cover_for(request, chosen_start(board, request)),
         card: board.card_for(request, day, until),
     }

@@ -7,8 +7,8 @@ use Rattle.board.specs.Noted.{all_noted}
 use Rattle.board.proofs.Noting.{changes_are, sub_known, only_pieces}
 use Rattle.board.proofs.operations.Operations.note_entry.Goals as goal
 
-pub note_sub-requires-clause-known : goal.note_sub-requires-clause-known
-note_sub-requires-clause-known c = sub_known _ c.args.subs.now.ranges c.in-SubReturn.range c.exact.result c.requires.subs c.exact.ensures
+pub note_sub_gone-requires-clause-known : goal.note_sub_gone-requires-clause-known
+note_sub_gone-requires-clause-known c = sub_known _ c.args.subs.now.ranges c.in-SubReturn.range c.exact.result c.requires.subs c.exact.ensures
 
 -- what a request changes that touches pieces alone
 pub note_changes-requires-clause-room : goal.note_changes-requires-clause-room
