@@ -3,8 +3,8 @@ ghost use Rattle.std.specs.Prelude.{◌≡◌, ◌∷◌, [], ◌&&◌, nat_lt, 
 ghost use Rattle.std.specs.Option.{is_some};
 ghost use Rattle.desk_lang.specs.Words.{first_word};
 ghost use Rattle.reg_entry.specs.Days.{last_date};
-ghost use Rattle.reg_entry.specs.Request.{IsSizedRequest};
-ghost use Rattle.desk_lang.specs.Grammar.{range_line, number_line, range_and_handle, holder_line, delegate_line, transfer_line, day_line, by_line, more_hosts, reverse_line, line_of_verb, is_comment, line_of, IsSizedLine, IsDatedLine};
+ghost use Rattle.desk_lang.specs.declared.verb.Verb.TheVariants as verbs;
+ghost use Rattle.desk_lang.specs.Grammar.{range_line, number_line, range_and_handle, holder_line, day_line, by_line, more_hosts, line_of_verb, is_comment, line_of, IsSizedLine, IsDatedLine};
 
 use crate::rest::{Malformed, Rest};
 use crate::verb::{Verb, read_verb};
@@ -78,34 +78,61 @@ fn holder_line(rest: &Rest<'_>) -> Result<Holder, Malformed>
     })
 }
 
+// A function fills the room of all its values when it is entered, and requests are large. So what stands behind these verbs
+// is read by functions of their own, each of which makes the whole line.
+
+#[inline(never)]
+fn add_holder_line(rest: &Rest<'_>) -> Result<Line, Malformed>
+    ensures value { result ≡ line_of_verb verbs.Holder rest.now }
+    ensures sized { IfOk result IsSizedLine }
+    ensures dated { IfOk result IsDatedLine }
+{
+    let holder = holder_line(rest)?;
+    Ok(Line::Request(Request::AddHolder { holder }))
+}
+
+#[inline(never)]
+fn edit_holder_line(rest: &Rest<'_>) -> Result<Line, Malformed>
+    ensures value { result ≡ line_of_verb verbs.Edit rest.now }
+    ensures sized { IfOk result IsSizedLine }
+    ensures dated { IfOk result IsDatedLine }
+{
+    let holder = holder_line(rest)?;
+    Ok(Line::Request(Request::EditHolder { holder }))
+}
+
+#[inline(never)]
 #[tactic(auto, unfolding(crate::specs::Grammar::delegate_line))]
-fn delegate_line(rest: &Rest<'_>) -> Result<Request, Malformed>
-    ensures value { result ≡ delegate_line rest.now }
-    ensures sized { IfOk result IsSizedRequest }
+fn delegate_line(rest: &Rest<'_>) -> Result<Line, Malformed>
+    ensures value { result ≡ line_of_verb verbs.Delegate rest.now }
+    ensures sized { IfOk result IsSizedLine }
+    ensures dated { IfOk result IsDatedLine }
 {
     let (space, rest) = rest.space()?;
     let (amount, rest) = rest.amount(space)?;
     let (status, rest) = rest.delegation()?;
     let (handle, rest) = rest.handle()?;
     rest.end()?;
-    Ok(Request::Delegate {
+    Ok(Line::Request(Request::Delegate {
         space,
         amount,
         status,
         handle,
-    })
+    }))
 }
 
+#[inline(never)]
 #[tactic(auto, unfolding(crate::specs::Grammar::transfer_line))]
-fn transfer_line(rest: &Rest<'_>) -> Result<Request, Malformed>
-    ensures value { result ≡ transfer_line rest.now }
-    ensures sized { IfOk result IsSizedRequest }
+fn transfer_line(rest: &Rest<'_>) -> Result<Line, Malformed>
+    ensures value { result ≡ line_of_verb verbs.Transfer rest.now }
+    ensures sized { IfOk result IsSizedLine }
+    ensures dated { IfOk result IsDatedLine }
 {
     let (range, rest) = rest.range()?;
     let (from, rest) = rest.handle()?;
     let (to, rest) = rest.handle()?;
     rest.end()?;
-    Ok(Request::Transfer { range, from, to })
+    Ok(Line::Request(Request::Transfer { range, from, to }))
 }
 
 #[tactic(auto, unfolding(crate::specs::Grammar::day_line))]
@@ -151,15 +178,17 @@ fn more_hosts(first: Host, rest: Rest<'_>) -> Result<Servers, Malformed>
     Ok(Servers::new(&hosts[..len]).unwrap())
 }
 
+#[inline(never)]
 #[tactic(auto, unfolding(crate::specs::Grammar::reverse_line))]
-fn reverse_line(rest: &Rest<'_>) -> Result<Request, Malformed>
-    ensures value { result ≡ reverse_line rest.now }
-    ensures sized { IfOk result IsSizedRequest }
+fn reverse_line(rest: &Rest<'_>) -> Result<Line, Malformed>
+    ensures value { result ≡ line_of_verb verbs.Reverse rest.now }
+    ensures sized { IfOk result IsSizedLine }
+    ensures dated { IfOk result IsDatedLine }
 {
     let (range, rest) = rest.range()?;
     let (host, rest) = rest.host()?;
     let servers = more_hosts(host, rest)?;
-    Ok(Request::SetReverse { range, servers })
+    Ok(Line::Request(Request::SetReverse { range, servers }))
 }
 
 /// What a line asks for by its verb and what stands behind it.
@@ -172,13 +201,9 @@ fn line_of_verb(verb: Verb, rest: &Rest<'_>) -> Result<Line, Malformed>
         Verb::Receive => Request::Receive {
             range: range_line(rest)?,
         },
-        Verb::Holder => Request::AddHolder {
-            holder: holder_line(rest)?,
-        },
-        Verb::Edit => Request::EditHolder {
-            holder: holder_line(rest)?,
-        },
-        Verb::Delegate => delegate_line(rest)?,
+        Verb::Holder => return add_holder_line(rest),
+        Verb::Edit => return edit_holder_line(rest),
+        Verb::Delegate => return delegate_line(rest),
         Verb::Reserve => Request::Reserve {
             range: range_line(rest)?,
         },
@@ -205,8 +230,8 @@ fn line_of_verb(verb: Verb, rest: &Rest<'_>) -> Result<Line, Malformed>
         Verb::Join => Request::Join {
             at: number_line(rest)?,
         },
-        Verb::Transfer => transfer_line(rest)?,
-        Verb::Reverse => reverse_line(rest)?,
+        Verb::Transfer => return transfer_line(rest),
+        Verb::Reverse => return reverse_line(rest),
         Verb::Unreverse => Request::ClearReverse {
             range: range_line(rest)?,
         },
