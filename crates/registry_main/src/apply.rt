@@ -6,16 +6,18 @@ ghost use Rattle.registry_main.specs.Session.{answered, after_text};
 ghost use Rattle.registry_main.specs.LineBuffer.{HasNoNewline};
 ghost use Rattle.registry_main.specs.Published.{IsAfterScript};
 
+use crate::answer_line::AnswerLine;
 use crate::batch::{PIECE, part_at_newline, without_return};
 use crate::line_buffer::LineBuffer;
 use crate::session::Session;
 use link_face::{Failed, Source};
 
 /// Does what one line asks for, which is handed in without its line end.
-fn apply_line(session: &mut Session, line: &[u8])
-    ensures { session.new ≡ (answered session.old line.now).session }
+fn apply_line(session: &mut Session, text: &[u8])
+    ensures { session.new ≡ (answered session.old text.now).session }
 {
-    let _unwanted = session.answer(line);
+    let mut unwanted = AnswerLine::new();
+    session.answer(text, &mut unwanted);
 }
 
 /// Applies the line that is kept, whose end has come, and begins the next.

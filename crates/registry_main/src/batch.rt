@@ -8,6 +8,7 @@ ghost use Rattle.registry_main.specs.LineBuffer.{HasNoNewline};
 ghost use Rattle.registry_main.specs.Batch.{with_replies, with_all_replies, BeginsWith, IsFrontWritten, IsUpToDate, known};
 ghost use Rattle.registry_main.specs.declared.batch.Stop.TheVariants.{Read, Write};
 
+use crate::answer_line::AnswerLine;
 use crate::held_replies::{HeldReplies, write_held};
 use crate::line_buffer::LineBuffer;
 use crate::session::Session;
@@ -37,17 +38,18 @@ pub fn without_return(line: &[u8]) -> &[u8]
 /// Answers one line, which is handed in without its line end.
 fn answer_line<K: Sink>(
     session: &mut Session,
-    line: &[u8],
+    text: &[u8],
     held: &mut HeldReplies,
     out: &mut K,
 ) -> Result<(), Failed>
-    ensures ok { OnOk result (Appends (append_known (K.written out.old) held.old.items) (append_known (K.written out.new) held.new.items) (answered session.old line.now).text) }
-    ensures session { OnOk result (session.new ≡ (answered session.old line.now).session) }
-    ensures err { OnErr result (IsFrontWritten (append_known (K.written out.old) held.old.items) (answered session.old line.now).text (K.written out.new)) }
+    ensures ok { OnOk result (Appends (append_known (K.written out.old) held.old.items) (append_known (K.written out.new) held.new.items) (answered session.old text.now).text) }
+    ensures session { OnOk result (session.new ≡ (answered session.old text.now).session) }
+    ensures err { OnErr result (IsFrontWritten (append_known (K.written out.old) held.old.items) (answered session.old text.now).text (K.written out.new)) }
     ensures cause { HasCause (K.faults out.old) (K.faults out.new) result }
 {
-    let answer = session.answer(line);
-    answer.write(session, held, out)
+    let mut line = AnswerLine::new();
+    let answer = session.answer(text, &mut line);
+    answer.write(session, &mut line, held, out)
 }
 
 /// Answers the line that is kept, whose end has come, and begins the next.

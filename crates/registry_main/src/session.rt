@@ -1,12 +1,13 @@
 //! The session of a script: the register that its lines build, line by line.
-ghost use Rattle.std.specs.Prelude.{◌≡◌, ◌<◌, ◌++◌, max, codes, length, None, Ok, IfOk, IfSome};
+ghost use Rattle.std.specs.Prelude.{◌≡◌, ◌<◌, ◌≤◌, [], max, length, Ok, IfOk, IfSome};
+ghost use Rattle.arrayvec.specs.ArrayVec.{array_vec_len};
 ghost use Rattle.reg_entry.specs.declared.entry.Reply.TheVariants.{Refused};
 ghost use Rattle.reg_entry.specs.declared.refusal.Refusal.TheVariants.{Malformed};
+ghost use Rattle.reg_entry.specs.Days.{last_date};
 ghost use Rattle.reg_entry.specs.Holders.{handle_of};
 ghost use Rattle.reg_entry.specs.Register.{piece_of};
-ghost use Rattle.desk_text.specs.ReplyText.{ReplyHasDate};
-ghost use Rattle.registry_main.specs.Answer.{answer_text, HasDates};
-ghost use Rattle.registry_main.specs.declared.answer.Answer.TheVariants.{Shown};
+ghost use Rattle.desk_text.specs.ReplyText.{reply_text};
+ghost use Rattle.registry_main.specs.Answer.{answer_text};
 ghost use Rattle.registry_main.specs.Session.{new_session, decided, after_reply, shown_text, step_of, answered};
 ghost use Rattle.registry_main.specs.Published.{session_text};
 ghost use Rattle.command_words.specs.declared.command.Publication.TheVariants.{Statistics};
@@ -14,10 +15,12 @@ ghost use Rattle.reverse_zone.specs.Apex.{IsApex};
 ghost use Rattle.reverse_zone.specs.Zone.{in_pool, zone_text};
 
 use crate::answer::Answer;
+use crate::answer_line::AnswerLine;
 use board::{Board, Body};
 use delegated_ext::write_stats;
 use desk_lang::{Line, read_line};
 use desk_text::laws::replies_have_dates;
+use desk_text::{write_none, write_piece, write_reply};
 use num_range::Number;
 use piece_book::PieceBook;
 use policy_table::Policy;
@@ -55,11 +58,15 @@ impl Model for Session {
     ghost view = { λ s. record { register = s.board.register; policy = s.policy; day = s.day; who = s.who } };
 }
 
-/// The answer of a line that isn't decided.
-fn malformed(place: u32) -> Reply
-    ensures { result ≡ Refused (Malformed place) }
+/// Tells of a line that isn't decided. It isn't inlined, since a function makes room for all its values when it is entered, and
+/// a reply has that of an entry.
+#[inline(never)]
+fn tell_malformed(place: u32, line: &mut AnswerLine)
+    requires { line.old.items ≡ [] }
+    ensures text { line.new.items ≡ reply_text (Refused (Malformed place)) }
+    ensures short { array_vec_len line.new ≤ 140 }
 {
-    Reply::Refused(Refusal::Malformed { place })
+    write_reply(&Reply::Refused(Refusal::Malformed { place }), line);
 }
 
 impl Session {
@@ -89,26 +96,27 @@ impl Session {
         self.day.max(self.board.last_day())
     }
 
-    /// Decides a request, and takes in the entry that it becomes.
-    fn decide(&mut self, request: &Request) -> Reply
-        ensures reply { result ≡ decided self.old request.now }
-        ensures session { self.new ≡ after_reply self.old result }
-        ensures date { ReplyHasDate result }
+    /// Decides a request, takes in the entry that it becomes, and tells what became of it.
+    fn decide(&mut self, request: &Request, line: &mut AnswerLine)
+        requires { line.old.items ≡ [] }
+        ensures session { self.new ≡ after_reply self.old (decided self.old request.now) }
+        ensures text { line.new.items ≡ reply_text (decided self.old request.now) }
+        ensures short { array_vec_len line.new ≤ 140 }
     {
         self.board.is_whole();
-        // A law, for `date`.
+        // A law, for the days that are written.
         replies_have_dates();
         let reply = decide(&self.board, &self.policy, self.day, &self.who, request);
+        write_reply(&reply, line);
         if let Reply::Accepted(entry) = &reply {
             self.board.apply(entry);
         }
-        reply
     }
 
     /// The piece that holds the number.
     fn find_piece(&self, n: &Number) -> Option<Piece>
         ensures piece { result ≡ piece_of self.now.register.pool n.now }
-        ensures dates { IfSome result (λ p. HasDates (Shown p None)) }
+        ensures dates { IfSome result (λ p. (p.card.day ≤ last_date) × (p.card.until ≤ last_date)) }
         ensures holder { IfSome result (λ p. IfSome p.card.holder (λ number. number < length self.now.register.holders)) }
     {
         self.board.is_whole();
@@ -124,27 +132,35 @@ impl Session {
         Some(holder.handle)
     }
 
-    /// What is known of a number.
-    fn show(&self, n: &Number) -> Answer
-        ensures text { answer_text self.now result ≡ shown_text self.now.register (piece_of self.now.register.pool n.now) ++ codes "\n" }
-        ensures dates { HasDates result }
+    /// Tells what is known of a number.
+    fn show(&self, n: &Number, line: &mut AnswerLine)
+        requires { line.old.items ≡ [] }
+        ensures text { line.new.items ≡ shown_text self.now.register (piece_of self.now.register.pool n.now) }
+        ensures short { array_vec_len line.new ≤ 140 }
     {
         let Some(piece) = self.find_piece(n) else {
-            return Answer::Outside;
+            write_none(line);
+            return;
         };
-        let handle = self.handle_of(piece.card.holder);
-        Answer::Shown(piece, handle)
+        write_piece(&piece, &self.handle_of(piece.card.holder), line);
     }
 
     /// Does what a line asks for.
-    fn follow(&mut self, line: &Line) -> Answer
-        ensures session { self.new ≡ (step_of self.old (Ok line.now)).session }
-        ensures text { answer_text self.new result ≡ (step_of self.old (Ok line.now)).text }
-        ensures dates { HasDates result }
+    fn follow(&mut self, asked: &Line, line: &mut AnswerLine) -> Answer
+        requires { line.old.items ≡ [] }
+        ensures session { self.new ≡ (step_of self.old (Ok asked.now)).session }
+        ensures text { answer_text self.new line.new.items result ≡ (step_of self.old (Ok asked.now)).text }
+        ensures short { array_vec_len line.new ≤ 140 }
     {
-        match line {
-            Line::Request(request) => Answer::Decided(self.decide(request)),
-            Line::Show(n) => self.show(n),
+        match asked {
+            Line::Request(request) => {
+                self.decide(request, line);
+                Answer::Told
+            }
+            Line::Show(n) => {
+                self.show(n, line);
+                Answer::Told
+            }
             Line::Due => Answer::Due,
             Line::Day(day) => {
                 self.day = *day;
@@ -158,15 +174,19 @@ impl Session {
         }
     }
 
-    /// Answers a line, which is handed in without its line end.
-    pub fn answer(&mut self, line: &[u8]) -> Answer
-        ensures session { self.new ≡ (answered self.old line.now).session }
-        ensures text { answer_text self.new result ≡ (answered self.old line.now).text }
-        ensures dates { HasDates result }
+    /// Answers a line, which is handed in without its line end. What it tells is put into the other line.
+    pub fn answer(&mut self, text: &[u8], line: &mut AnswerLine) -> Answer
+        requires { line.old.items ≡ [] }
+        ensures session { self.new ≡ (answered self.old text.now).session }
+        ensures text { answer_text self.new line.new.items result ≡ (answered self.old text.now).text }
+        ensures short { array_vec_len line.new ≤ 140 }
     {
-        match &read_line(line) {
-            Ok(line) => self.follow(line),
-            Err(fault) => Answer::Decided(malformed(fault.place)),
+        match &read_line(text) {
+            Ok(asked) => self.follow(asked, line),
+            Err(fault) => {
+                tell_malformed(fault.place, line);
+                Answer::Told
+            }
         }
     }
 

@@ -2,7 +2,7 @@ use Rattle.std.proofs.Common.{sym, subst}
 use Rattle.desk_text.specs.ReplyText.{ReplyHasDate}
 use Rattle.registry_main.proofs.session.Session.decide.Goals as goal
 
-pub returns-in_default-clause-date : goal.returns-in_default-clause-date
-returns-in_default-clause-date c =
+pub write_reply-requires-clause-date : goal.write_reply-requires-clause-date
+write_reply-requires-clause-date c =
     subst ReplyHasDate (sym c.decide-reply.ensures.decision)
     (c.replies_have_dates.ensures c.self.inside.board.register c.self.inside.policy c.self.inside.day c.self.inside.who c.args.request.now c.is_whole.ensures.whole)
