@@ -6,7 +6,6 @@ ghost use Rattle.registry_main.specs.Session.{answered, after_text};
 ghost use Rattle.registry_main.specs.LineBuffer.{HasNoNewline};
 ghost use Rattle.registry_main.specs.Published.{IsAfterScript};
 
-use crate::answer_line::AnswerLine;
 use crate::batch::{PIECE, part_at_newline, without_return};
 use crate::line_buffer::LineBuffer;
 use crate::session::Session;
@@ -16,8 +15,7 @@ use link_face::{Failed, Source};
 fn apply_line(session: &mut Session, text: &[u8])
     ensures { session.new ≡ (answered session.old text.now).session }
 {
-    let mut unwanted = AnswerLine::new();
-    session.answer(text, &mut unwanted);
+    session.take(text);
 }
 
 /// Applies the line that is kept, whose end has come, and begins the next.

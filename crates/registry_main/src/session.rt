@@ -190,6 +190,23 @@ impl Session {
         }
     }
 
+    /// Does what a line asks for, which is handed in without its line end, and tells nothing of it.
+    pub fn take(&mut self, text: &[u8])
+        ensures { self.new ≡ (answered self.old text.now).session }
+    {
+        match &read_line(text) {
+            Ok(Line::Request(request)) => {
+                let reply = decide(&self.board, &self.policy, self.day, &self.who, request);
+                if let Reply::Accepted(accepted) = &reply {
+                    self.board.apply(accepted);
+                }
+            }
+            Ok(Line::Day(day)) => self.day = *day,
+            Ok(Line::By(name)) => self.who = *name,
+            Ok(Line::Show(_) | Line::Due | Line::Nothing) | Err(_) => {}
+        }
+    }
+
     /// The statistics file of the register.
     pub fn statistics(&self, alloc: Global) -> Result<Body, AllocError>
         ensures { IfOk result (λ body. body ≡ session_text Statistics self.now) }
