@@ -19,6 +19,21 @@ pairs_hold (suc m) (p ∷ q ∷ ps) both h =
     let len' = length-append q (joined ps) in
     omega (arith, rest, here, len, len')
 
+-- two by two the pages have 65 items
+pub half_of_pages : {T : Type 0} (ps : List (List T)) → ((i : ℕ) → i < length ps → HoldsEnough ps i) → 65 * (length ps / 2) ≤ length (joined ps)
+half_of_pages ps enough =
+    pairs_hold (length ps / 2) ps (λ i lt. (
+    let h = (enough (suc i) lt).both (omega arith) in
+    let e : suc i - 1 ≡ i = omega arith in
+    omega (arith, h, ap (λ k. length (page_of ps k)) e))) (omega arith)
+
+pub page-le-items : {T : Type 0} (ps : List (List T)) (i : ℕ) → length (page_of ps i) ≤ length (joined ps)
+page-le-items [] i = omega arith
+page-le-items (p ∷ ps) zero = omega (arith, length-append p (joined ps))
+page-le-items (p ∷ ps) (suc i) =
+    let rest = page-le-items ps i in
+    omega (arith, rest, length-append p (joined ps))
+
 -- of the pages for a room, two are spare
 pub two_spare : {T : Type 0} (ps : List (List T)) (spare room : ℕ) → ((i : ℕ) → i < length ps → HoldsEnough ps i)
     → length ps + spare ≡ pages_for room → length (joined ps) ≤ room → 2 ≤ spare

@@ -5,7 +5,7 @@ use Rattle.std.specs.Option.{IsSomeAnd}
 use Rattle.std.proofs.lemmas.Bool.{cases_Bool, cases_lt}
 use Rattle.std.proofs.lemmas.Bool.Decides.{nat_tests}
 use Rattle.std.proofs.lemmas.Nat.{pow-add}
-use Rattle.std.proofs.Math.Nat.{mul-le-mul_left, one-le-pow}
+use Rattle.std.proofs.Math.Nat.{mul-le-mul_left, mul-le-mul_right, one-le-pow}
 use Rattle.std.proofs.lemmas.Option.{slice_get-get_or}
 use Rattle.page_dir.specs.Searching.{FailsAt, IsDown, IsHalved, PassesAt, power_bound}
 
@@ -35,11 +35,6 @@ halved_once old new count e more =
     let one : 2 ^ (new - old) ≡ 2 = (let d : new - old ≡ 1 = omega arith in ap (λ k. 2 ^ k) d) in
     let small = fewer count more in
     rw one small
-
-pub not_halved : (old count : ℕ) → 2 ^ (old - old) * power_bound count ≤ power_bound count
-not_halved old count =
-    let one : 2 ^ (old - old) ≡ 1 = (let d : old - old ≡ 0 = omega arith in ap (λ k. 2 ^ k) d) in
-    rw one (omega arith)
 
 -- what halvings cost, one after another
 pub costs_join : (first then last all some few : ℕ) → first ≤ then → then ≤ last → 2 ^ (then - first) * some ≤ all → 2 ^ (last - then) * few ≤ some
@@ -115,13 +110,58 @@ below_256 k h = elim (cases_lt k 8) [
       absurd (omega (arith, power, more, h)))
 ]
 
--- halving pages and then a page
-pub both_halved : (first then last pages page items : ℕ) → first ≤ then → then ≤ last → 2 ^ (then - first) ≤ 2 * power_bound pages → 2 ^ (last - then) ≤ 2 * page + 1
-    → page ≤ 64 → pages ≤ items → 2 ^ (last - first) ≤ 256 * (2 * items + 1)
-both_halved first then last pages page items le le' one two small few =
+pow_rises : (a b : ℕ) → a ≤ b → 2 ^ a ≤ 2 ^ b
+pow_rises a b le =
+    let sum : b ≡ a + (b - a) = omega arith in
+    let power = ap (λ n. 2 ^ n) sum ∙ pow-add 2 a (b - a) in
+    let more : 1 ≤ 2 ^ (b - a) = one-le-pow (b - a) 2 (omega arith) in
+    let bound = mul-le-mul_left (2 ^ a) more in
+    omega (arith, power, bound)
+
+bound_is_some : (count : ℕ) → 1 ≤ power_bound count
+bound_is_some count = elim (cases_lt 1 count) [
+  | inl h ↦ (let e = bound_of_more count h in omega (arith, e))
+  | inr h ↦ (let e = bound_of_one count (omega arith) in omega (arith, e))
+]
+
+-- two comparisons alone
+pub two_alone : (first last count : ℕ) → last ≤ first + 2 → 2 ^ (last - first) ≤ 8 * power_bound count
+two_alone first last count few =
+    let most = pow_rises (last - first) 2 (omega arith) in
+    let some = bound_is_some count in
+    omega (arith, most, some)
+
+-- two comparisons before halvings
+pub two_first : (first then last count : ℕ) → first ≤ then → then ≤ first + 2 → then ≤ last → 2 ^ (last - then) ≤ 2 * power_bound count
+    → 2 ^ (last - first) ≤ 8 * power_bound count
+two_first first then last count le few le' cost =
     let sum : last - first ≡ (then - first) + (last - then) = omega arith in
     let power = ap (λ k. 2 ^ k) sum ∙ pow-add 2 (then - first) (last - then) in
-    let most = below_256 (last - then) (omega (arith, two, small)) in
-    let bound = mul-le-mul_left (2 ^ (then - first)) most in
+    let bound = mul-le-mul_left (2 ^ (then - first)) cost in
+    let most = mul-le-mul_right (2 * power_bound count) (pow_rises (then - first) 2 (omega arith)) in
+    omega (arith, power, bound, most)
+
+-- halving pages and then a page, where two neighbours have more than 64 items together
+pub both_halved : (first then last pages page items : ℕ) → first ≤ then → then ≤ last → 2 ^ (then - first) ≤ 8 * power_bound pages → 2 ^ (last - then) ≤ 2 * page + 1
+    → page ≤ 64 → page ≤ items → 65 * (pages / 2) ≤ items → 2 ^ (last - first) ≤ 256 * (2 * items + 1)
+both_halved first then last pages page items le le' one two small inside few =
+    let sum : last - first ≡ (then - first) + (last - then) = omega arith in
+    let power = ap (λ k. 2 ^ k) sum ∙ pow-add 2 (then - first) (last - then) in
+    elim (cases_lt 1 pages) [
+      | inl more ↦ (
+          let most = below_256 (last - then) (omega (arith, two, small)) in
+          let bound = mul-le-mul_left (2 ^ (then - first)) most in
+          let all = bound_of_more pages more in
+          omega (arith, power, bound, one, few, all))
+      | inr single ↦ (
+          let all = bound_of_one pages (omega arith) in
+          let bound = mul-le-mul_left (2 ^ (then - first)) two in
+          let least = mul-le-mul_right (2 * page + 1) (let h : 2 ^ (then - first) ≤ 8 = omega (arith, one, all) in h) in
+          omega (arith, power, bound, least, inside))
+    ]
+
+-- halving pages alone
+pub pages_halved : (first last pages items : ℕ) → 2 ^ (last - first) ≤ 8 * power_bound pages → pages ≤ items + 1 → 2 ^ (last - first) ≤ 256 * (2 * items + 1)
+pages_halved first last pages items one few =
     let all = bound_within pages in
-    omega (arith, power, bound, one, few, all)
+    omega (arith, one, few, all)

@@ -1,6 +1,7 @@
 -- What is written in a list of cells changes the region that it lies in, and no other.
 use Rattle.std.proofs.Common.{◌≡◌, ℕ, ◌+◌, ◌-◌, ◌≤◌, inl, inr, List, ◌++◌, length, take, drop, refl, ap, sym, ◌∙◌, arith, length-append, length-take-le, length-drop, append_assoc}
 use Rattle.std.proofs.lemmas.List.{take_at, drop_at, take-append-le, drop-append-le, take-append-drop, drop-drop, drop-take, take-take}
+use Rattle.std.specs.List.{copy_within}
 use Rattle.page_dir.specs.Regions.{IsApart, region}
 use Rattle.page_dir.specs.Splices.{spliced}
 
@@ -98,3 +99,23 @@ module _ {T : Type 0} (cells new : List T) (start len at n : ℕ) (run : at + n 
       ap (λ ys. new ++ ys) (sym (take-append-drop r rest))
       ∙ sym (append_assoc new (take r rest) (drop r rest))
       ∙ ap (λ ys. (new ++ take r rest) ++ ys) (drop-drop r (start + at + n) cells ∙ ap (λ j. drop j cells) to))
+
+  -- those behind the run move to where they come, and then the new ones are written before them
+  pub shifted : len + length new ≤ 64 + n → start + 64 ≤ length cells
+      → spliced (start + at) (length new) new (copy_within cells (start + at + n) (start + len) (start + at + length new))
+      ≡ spliced (start + at) (length new + length behind) (new ++ behind) cells
+  shifted fits room =
+      let a = start + at in
+      let d = a + length new in
+      let front = length-take-le d cells (omega arith) in
+      let size = length-behind in
+      let rest = drop (d + (start + len - (a + n))) cells in
+      let moved = append_assoc (take d cells) behind rest in
+      let below : take a (copy_within cells (a + n) (start + len) d) ≡ take a cells =
+      ap (take a) moved ∙ take-append-le a (take d cells) (behind ++ rest) (omega (arith, front)) ∙ take-take a d cells (omega arith) in
+      let above : drop d (copy_within cells (a + n) (start + len) d) ≡ behind ++ rest =
+      ap (drop d) moved ∙ drop_at (take d cells) (behind ++ rest) d front in
+      let to : d + (start + len - (a + n)) ≡ a + (length new + length behind) = omega (arith, size) in
+      ap (λ ys. ys ++ (new ++ drop d (copy_within cells (a + n) (start + len) d))) below
+      ∙ ap (λ ys. take a cells ++ (new ++ ys)) above
+      ∙ ap (λ ys. take a cells ++ ys) (sym (append_assoc new behind rest) ∙ ap (λ j. (new ++ behind) ++ drop j cells) to)

@@ -34,23 +34,22 @@ page_at pool order i slot page h at there =
     get_or-map (λ s. or_empty (held pool s)) order i slot [] h ∙ ap (λ s. or_empty (held pool s)) (sym at) ∙ ap or_empty there
 
 -- a pool whose pages are all vacant
-pub no_spread : {K V : Type 0} (pool : List (Option (List (K × V)))) (order : List ℕ) (firsts : List (K × Unit {0})) (n a f b : ℕ) → pool ≡ replicate n None → order ≡ []
-    → firsts ≡ [] → n ≤ a → n ≤ f → 64 ≤ b → IsSpread pool order firsts a f b
-no_spread {K} {V} pool order firsts n a f b vacant none no_firsts fits firsts_fit more = rw (vacant, none, no_firsts) (record {
+pub no_spread : {K V : Type 0} (pool : List (Option (List (K × V)))) (order : List ℕ) (firsts : List (K × Unit {0})) (n a f : ℕ) → pool ≡ replicate n None → order ≡ []
+    → firsts ≡ [] → n ≤ a → n ≤ f → IsSpread pool order firsts a f
+no_spread {K} {V} pool order firsts n a f vacant none no_firsts fits firsts_fit = rw (vacant, none, no_firsts) (record {
   each = λ k. sym (ap presence (none_held {T = List (K × V)} n k));
   within = λ k. subst (λ (o : Option (List (K × V))). length (or_empty o) ≤ 64) (sym (none_held {T = List (K × V)} n k)) (omega arith);
   begin = tt;
   order_room = let e = spare_vacant (List (K × V)) n in omega (arith, e, fits);
   firsts_room = let e = spare_vacant (List (K × V)) n in omega (arith, e, firsts_fit);
-  tail_room = more;
 })
 
-pub slots_differ : {K V : Type 0} {pool : List (Option (List (K × V)))} {order : List ℕ} {firsts : List (K × Unit {0})} {a f b : ℕ}
-    → IsSpread pool order firsts a f b → AreDistinct order
+pub slots_differ : {K V : Type 0} {pool : List (Option (List (K × V)))} {order : List ℕ} {firsts : List (K × Unit {0})} {a f : ℕ}
+    → IsSpread pool order firsts a f → AreDistinct order
 slots_differ {K} {V} {pool} s slot = let one = presence-le-one (held pool slot) in omega (arith, s.each slot, one)
 
-pub pages_within : {K V : Type 0} {pool : List (Option (List (K × V)))} {order : List ℕ} {firsts : List (K × Unit {0})} {a f b : ℕ}
-    → IsSpread pool order firsts a f b → (i : ℕ) → length (page_of (pages_at pool order) i) ≤ 64
+pub pages_within : {K V : Type 0} {pool : List (Option (List (K × V)))} {order : List ℕ} {firsts : List (K × Unit {0})} {a f : ℕ}
+    → IsSpread pool order firsts a f → (i : ℕ) → length (page_of (pages_at pool order) i) ≤ 64
 pages_within {K} {V} {pool} {order} s i = elim (cases_lt i (length order)) [
   | inl h ↦ subst (λ page. length page ≤ 64) (sym (get_or-map (λ slot. or_empty (held pool slot)) order i 0 [] h)) (s.within (get_or order i 0))
   | inr h ↦ subst (λ (page : List (K × V)). length page ≤ 64) (sym (get_or_past (pages_at pool order) i [] (omega (arith, length-map order (λ slot. or_empty (held pool slot)))))) (omega arith)
@@ -106,10 +105,10 @@ module _ {K V : Type 0} (pool : List (Option (List (K × V)))) (slot : ℕ) (old
   pub written_there : held (set pool slot (Some new)) slot ≡ Some new
   written_there = cell_there pool slot (Some new) (Some old) (cell_at_held pool slot old live)
 
-  pub spread_written : {order : List ℕ} {firsts : List (K × Unit {0})} {a f b f' b' : ℕ} (keys : List (K × Unit {0})) → IsSpread pool order firsts a f b
-      → BeginWith keys (pages_at (set pool slot (Some new)) order) → length new ≤ 64 → f ≤ f' → 64 ≤ b'
-      → IsSpread (set pool slot (Some new)) order keys a f' b'
-  spread_written keys s begin few firsts_more more =
+  pub spread_written : {order : List ℕ} {firsts : List (K × Unit {0})} {a f f' : ℕ} (keys : List (K × Unit {0})) → IsSpread pool order firsts a f
+      → BeginWith keys (pages_at (set pool slot (Some new)) order) → length new ≤ 64 → f ≤ f'
+      → IsSpread (set pool slot (Some new)) order keys a f'
+  spread_written keys s begin few firsts_more =
       let spares = spare_written in
       record {
         each = λ k. (let e = presence_after pool slot (Some new) (Some old) (cell_at_held pool slot old live) k in s.each k ∙ omega (arith, e));
@@ -117,10 +116,9 @@ module _ {K V : Type 0} (pool : List (Option (List (K × V)))) (slot : ℕ) (old
         begin = begin;
         order_room = omega (arith, spares, s.order_room);
         firsts_room = omega (arith, spares, s.firsts_room, firsts_more);
-        tail_room = more;
       }
 
-  pub pages_written : {order : List ℕ} {firsts : List (K × Unit {0})} {a f b : ℕ} (i d : ℕ) → IsSpread pool order firsts a f b → i < length order → get_or order i d ≡ slot
+  pub pages_written : {order : List ℕ} {firsts : List (K × Unit {0})} {a f : ℕ} (i d : ℕ) → IsSpread pool order firsts a f → i < length order → get_or order i d ≡ slot
       → pages_at (set pool slot (Some new)) order ≡ set (pages_at pool order) i new
   pages_written {order} i d s h at =
       let was = cell_at_held pool slot old live in
@@ -129,9 +127,9 @@ module _ {K V : Type 0} (pool : List (Option (List (K × V)))) (slot : ℕ) (old
 
 -- a vacant page that comes into use
 module _ {K V : Type 0} (pool : List (Option (List (K × V)))) (slot : ℕ) (new : List (K × V)) (vacant : IsVacant pool slot) where
-  pub spread_added : {order : List ℕ} {firsts : List (K × Unit {0})} {a f b a' f' : ℕ} (i : ℕ) (keys : List (K × Unit {0})) → IsSpread pool order firsts a f b
+  pub spread_added : {order : List ℕ} {firsts : List (K × Unit {0})} {a f a' f' : ℕ} (i : ℕ) (keys : List (K × Unit {0})) → IsSpread pool order firsts a f
       → BeginWith keys (pages_at (set pool slot (Some new)) (insert order i slot)) → length new ≤ 64 → i ≤ length order → a ≤ a' → f ≤ f'
-      → IsSpread (set pool slot (Some new)) (insert order i slot) keys a' f' b
+      → IsSpread (set pool slot (Some new)) (insert order i slot) keys a' f'
   spread_added {order} i keys s begin few h more firsts_more =
       let longer = length-insert order i slot h in
       let fewer = spare_set pool slot None (Some new) vacant in
@@ -144,10 +142,9 @@ module _ {K V : Type 0} (pool : List (Option (List (K × V)))) (slot : ℕ) (new
         begin = begin;
         order_room = omega (arith, longer, fewer, s.order_room, more);
         firsts_room = omega (arith, longer, fewer, s.firsts_room, firsts_more);
-        tail_room = s.tail_room;
       }
 
-  pub pages_added : {order : List ℕ} {firsts : List (K × Unit {0})} {a f b : ℕ} (i : ℕ) → IsSpread pool order firsts a f b
+  pub pages_added : {order : List ℕ} {firsts : List (K × Unit {0})} {a f : ℕ} (i : ℕ) → IsSpread pool order firsts a f
       → pages_at (set pool slot (Some new)) (insert order i slot) ≡ insert (pages_at pool order) i new
   pages_added {order} i s =
       let absent : times slot order ≡ 0 = s.each slot ∙ ap presence (cell_before pool slot (Some new) None vacant) in
@@ -158,9 +155,9 @@ module _ {K V : Type 0} (pool : List (Option (List (K × V)))) (slot : ℕ) (new
 
 -- a page that goes out of use
 module _ {K V : Type 0} (pool : List (Option (List (K × V)))) (slot : ℕ) (old : List (K × V)) (live : held pool slot ≡ Some old) where
-  pub spread_removed : {order : List ℕ} {firsts : List (K × Unit {0})} {a f b a' f' : ℕ} (i d : ℕ) (keys : List (K × Unit {0})) → IsSpread pool order firsts a f b
+  pub spread_removed : {order : List ℕ} {firsts : List (K × Unit {0})} {a f a' f' : ℕ} (i d : ℕ) (keys : List (K × Unit {0})) → IsSpread pool order firsts a f
       → BeginWith keys (pages_at (set pool slot None) (remove order i)) → i < length order → get_or order i d ≡ slot → a ≤ a' → f ≤ f'
-      → IsSpread (set pool slot None) (remove order i) keys a' f' b
+      → IsSpread (set pool slot None) (remove order i) keys a' f'
   spread_removed {order} i d keys s begin h at more firsts_more =
       let was = cell_at_held pool slot old live in
       let shorter = length-remove order i h in
@@ -175,10 +172,9 @@ module _ {K V : Type 0} (pool : List (Option (List (K × V)))) (slot : ℕ) (old
         begin = begin;
         order_room = omega (arith, shorter, spares, s.order_room, more);
         firsts_room = omega (arith, shorter, spares, s.firsts_room, firsts_more);
-        tail_room = s.tail_room;
       }
 
-  pub pages_removed : {order : List ℕ} {firsts : List (K × Unit {0})} {a f b : ℕ} (i d : ℕ) → IsSpread pool order firsts a f b → i < length order → get_or order i d ≡ slot
+  pub pages_removed : {order : List ℕ} {firsts : List (K × Unit {0})} {a f : ℕ} (i d : ℕ) → IsSpread pool order firsts a f → i < length order → get_or order i d ≡ slot
       → pages_at (set pool slot None) (remove order i) ≡ remove (pages_at pool order) i
   pages_removed {order} i d s h at =
       let was = cell_at_held pool slot old live in
@@ -189,8 +185,8 @@ module _ {K V : Type 0} (pool : List (Option (List (K × V)))) (slot : ℕ) (old
       ∙ map-remove (λ k. or_empty (held pool k)) order i
 
 -- a slot in use is a live one
-pub slot_lives : {K V : Type 0} (pool : List (Option (List (K × V)))) (order : List ℕ) (firsts : List (K × Unit {0})) (a f b i d : ℕ) → IsSpread pool order firsts a f b → i < length order
+pub slot_lives : {K V : Type 0} (pool : List (Option (List (K × V)))) (order : List ℕ) (firsts : List (K × Unit {0})) (a f i d : ℕ) → IsSpread pool order firsts a f → i < length order
     → (page : List (K × V)) × (held pool (get_or order i d) ≡ Some page)
-slot_lives pool order firsts a f b i d s h =
+slot_lives pool order firsts a f i d s h =
     let there = times_at order i d h in
     live_present (held pool (get_or order i d)) (let e = s.each (get_or order i d) in omega (arith, e, there))

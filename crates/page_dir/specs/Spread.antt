@@ -30,13 +30,12 @@ BeginWith (key ∷ keys) [] = ⊥
 BeginWith (key ∷ keys) (page ∷ pages) = BeginsWith key.0 page × BeginWith keys pages
 
 -- one equation for each slot says that the slots in use differ, and are the live ones; the first keys are those of the pages
-pub record IsSpread {K V : Type 0} (pool : List (Option (List (K × V)))) (order : List ℕ) (firsts : List (K × Unit {0})) (order_cap firsts_cap tail_cap : ℕ) : Type 0 where
+pub record IsSpread {K V : Type 0} (pool : List (Option (List (K × V)))) (order : List ℕ) (firsts : List (K × Unit {0})) (order_cap firsts_cap : ℕ) : Type 0 where
   pub each : (slot : ℕ) → times slot order ≡ presence (held pool slot)
   pub within : (slot : ℕ) → length (or_empty (held pool slot)) ≤ 64
   pub begin : BeginWith firsts (pages_at pool order)
   pub order_room : length order + spare pool ≤ order_cap
   pub firsts_room : length order + spare pool ≤ firsts_cap
-  pub tail_room : 64 ≤ tail_cap
 
 -- a place in the pages: within a page, or at its end
 pub record IsPlace {T : Type 0} (pages : List (List T)) (page at : ℕ) : Type 0 where

@@ -5,7 +5,7 @@ ghost use Rattle.page_dir.specs.Sorted.{Rises, last_at_most, rank};
 ghost use Rattle.page_dir.specs.Splices.{spliced};
 
 use crate::between::count_between;
-use crate::locating::{Side, first_from, locate, run_from};
+use crate::locating::{Side, first_from, locate, page_near, run_from};
 use crate::replacing::replace;
 use crate::spread::Spread;
 use crate::{PagePool, PageWalk, Steps};
@@ -133,6 +133,14 @@ impl<K: Ord + Copy, V: Copy> PageDir<K, V> {
     {
         let (page, at) = first_from(&self.spread, key);
         PageWalk::over(&self.spread, page, at)
+    }
+
+    /// Says that what stands near this key is asked for next, which spares the search for its page. It changes nothing.
+    pub fn approach(&mut self, key: &K)
+        ensures { self.new ≡ self.old }
+    {
+        let page = page_near(&self.spread, key);
+        self.spread.come_near(page);
     }
 
     /// So many pairs go, from the first key that is at least this one, and the new ones come in their stead.

@@ -1,5 +1,5 @@
 //! Finding places by halving, first among the pages and then in one of them.
-ghost use Rattle.std.specs.Prelude.{◌≡◌, ℕ, ◌+◌, ◌-◌, ◌*◌, ◌/◌, ◌^◌, ◌<◌, ◌≤◌, length};
+ghost use Rattle.std.specs.Prelude.{◌≡◌, ℕ, ◌+◌, ◌-◌, ◌*◌, ◌/◌, ◌^◌, ◌<◌, ◌≤◌, true, length};
 ghost use Rattle.std.specs.List.{prefix_len};
 ghost use Rattle.page_dir.specs.Pages.{HoldsEnough, joined, page_of};
 ghost use Rattle.page_dir.specs.Searching.{FailsAt, IsDown, IsTurn, IsWindow, PassesAt, power_bound, stands_before};
@@ -106,8 +106,57 @@ fn halve_often<K: Ord + Copy, V: Copy, L: Ledger>(
     halve(rows, key, side, steps, five_times)
 }
 
-/// How many rows stand before the place.
+/// Whether just so many rows stand before the place, and one at least: two comparisons say so.
+fn is_turn<K: Ord + Copy, V: Copy, L: Ledger>(
+    rows: &[(K, V)],
+    key: &K,
+    side: Side,
+    steps: &mut Steps<L>,
+    count: usize,
+) -> bool
+    ensures turn { result ≡ true → IsTurn
+        (PassesAt (λ p. stands_before K.cmp side key.now p.0) rows.now)
+        (FailsAt (λ p. stands_before K.cmp side key.now p.0) rows.now)
+        (length rows.now) count }
+    ensures counted { steps.old ≤ steps.new }
+    ensures few { steps.new ≤ steps.old + 2 }
+{
+    if count == 0 || rows.len() < count {
+        return false;
+    }
+    if !stands_before(&rows[count - 1].0, key, side, steps) {
+        return false;
+    }
+    if count == rows.len() {
+        return true;
+    }
+    !stands_before(&rows[count].0, key, side, steps)
+}
+
+/// How many rows stand before the place. Whether it is so many as were near is asked first.
 fn rows_before<K: Ord + Copy, V: Copy, L: Ledger>(
+    rows: &[(K, V)],
+    key: &K,
+    side: Side,
+    steps: &mut Steps<L>,
+    near: usize,
+) -> usize
+    requires { IsDown (λ p. stands_before K.cmp side key.now p.0) rows.now }
+    ensures turn { IsTurn
+        (PassesAt (λ p. stands_before K.cmp side key.now p.0) rows.now)
+        (FailsAt (λ p. stands_before K.cmp side key.now p.0) rows.now)
+        (length rows.now) result }
+    ensures counted { steps.old ≤ steps.new }
+    ensures cost { 2 ^ (steps.new - steps.old) ≤ 8 * power_bound (length rows.now) }
+{
+    if is_turn(rows, key, side, steps, near) {
+        return near;
+    }
+    rows_by_halving(rows, key, side, steps)
+}
+
+/// How many rows stand before the place, by halving.
+fn rows_by_halving<K: Ord + Copy, V: Copy, L: Ledger>(
     rows: &[(K, V)],
     key: &K,
     side: Side,
@@ -152,9 +201,9 @@ fn pages_before<K: Ord + Copy, V: Copy, L: Ledger>(
         (λ i. FailsAt (λ p. stands_before K.cmp side key.now p.0) (page_of (pages_in spread.now) i) 0)
         (length (pages_in spread.now)) result }
     ensures counted { steps.old ≤ steps.new }
-    ensures cost { 2 ^ (steps.new - steps.old) ≤ 2 * power_bound (length (pages_in spread.now)) }
+    ensures cost { 2 ^ (steps.new - steps.old) ≤ 8 * power_bound (length (pages_in spread.now)) }
 {
-    rows_before(spread.firsts(), key, side, steps)
+    rows_before(spread.firsts(), key, side, steps, spread.near())
 }
 
 /// How many pairs of a page stand before the place. Here a branch is right: a page is seldom at hand, and what the processor
@@ -227,6 +276,22 @@ pub(crate) fn place_of<K: Ord + Copy, V: Copy, L: Ledger>(
     locate(spread, key, Side::Below, &mut steps)
 }
 
+/// How many pages there are up to the one that the key belongs in; nobody counts the comparisons.
+fn pages_up_to<K: Ord + Copy, V: Copy, L: Ledger>(
+    spread: &Spread<K, V>,
+    key: &K,
+    blank: Blank,
+) -> usize
+    requires name { blank.name ≡ L.name }
+    requires parts { blank.parts ≡ L.parts }
+    requires some { 0 < blank.parts }
+    requires enough { (i : ℕ) → i < length (pages_in spread.now) → HoldsEnough (pages_in spread.now) i }
+    requires rises { Rises K.cmp (joined (pages_in spread.now)) }
+{
+    let mut steps = Steps::<L>::new(blank);
+    pages_before(spread, key, Side::UpTo, &mut steps)
+}
+
 /// The same place, as one of the next page where it is the end of a page.
 pub(crate) fn forward<K: Copy, V: Copy>(
     spread: &Spread<K, V>,
@@ -255,6 +320,14 @@ pub(crate) fn first_from<K: Ord + Copy, V: Copy>(spread: &Spread<K, V>, key: &K)
 {
     let (page, at) = place_of::<K, V, Brand>(spread, key, Blank::new(1));
     forward(spread, page, at)
+}
+
+/// How many pages there are up to the one that the key belongs in.
+pub(crate) fn page_near<K: Ord + Copy, V: Copy>(spread: &Spread<K, V>, key: &K) -> usize
+    requires enough { (i : ℕ) → i < length (pages_in spread.now) → HoldsEnough (pages_in spread.now) i }
+    requires rises { Rises K.cmp (joined (pages_in spread.now)) }
+{
+    pages_up_to::<K, V, Brand>(spread, key, Blank::new(1))
 }
 
 /// The place where a run of so many pairs begins: at the end of a page only where there is nothing in the run.

@@ -87,19 +87,17 @@ impl<T: Copy> PagePool<T> {
         self.lens.give(slot);
     }
 
-    /// So many items of a page go from a place on, and the new ones come there. The tail is room to work in.
-    pub(crate) fn splice(&mut self, slot: &Slot, at: usize, n: usize, new: &[T], tail: &mut Vec<T>)
+    /// So many items of a page go from a place on, and the new ones come there.
+    pub(crate) fn splice(&mut self, slot: &Slot, at: usize, n: usize, new: &[T])
         requires live { IsLive self.old slot.now }
         requires there { at + n ≤ length (or_empty (held self.old slot.now)) }
         requires fits { length (or_empty (held self.old slot.now)) + length new.now ≤ 64 + n }
-        requires tail { 64 ≤ vec_capacity tail.old }
-        ensures page { self.new ≡ slice_set self.old slot.now (Some (spliced at n new.now (or_empty (held self.old slot.now)))) }
-        ensures tail { 64 ≤ vec_capacity tail.new }
+        ensures { self.new ≡ slice_set self.old slot.now (Some (spliced at n new.now (or_empty (held self.old slot.now)))) }
     {
         let held = self.lens.get_mut(slot);
         let start = 64 * slot.index();
         let len = *held - n + new.len();
-        splice(&mut self.cells, start, *held, at, n, new, tail);
+        splice(&mut self.cells, start, *held, at, n, new);
         *held = len;
     }
 }
@@ -139,8 +137,8 @@ pub(crate) fn append<T: Copy>(items: &mut Vec<T>, new: &[T])
     }
 }
 
-/// In the cells of one page, which has so many items, some of them go from a place on and the new ones come there: those
-/// behind move by way of the tail.
+/// In the cells of one page, which has so many items, some of them go from a place on and the new ones come there, once
+/// those behind have moved to where they are to stand.
 fn splice<T: Copy>(
     cells: &mut Vec<T>,
     start: usize,
@@ -148,25 +146,21 @@ fn splice<T: Copy>(
     at: usize,
     n: usize,
     new: &[T],
-    tail: &mut Vec<T>,
 )
     requires there { at + n ≤ len }
     requires fits { len + length new.now ≤ 64 + n }
     requires within { len ≤ 64 }
     requires cells { start + 64 ≤ length cells.old.items }
-    requires tail { 64 ≤ vec_capacity tail.old }
     ensures here { region cells.new.items start (len - n + length new.now) ≡ spliced at n new.now (region cells.old.items start len) }
     ensures elsewhere { (i k : ℕ) → IsApart start i k → region cells.new.items i k ≡ region cells.old.items i k }
     ensures count { length cells.new.items ≡ length cells.old.items }
     ensures room { vec_capacity cells.new ≡ vec_capacity cells.old }
-    ensures tail { 64 ≤ vec_capacity tail.new }
 {
     if n == new.len() {
         write(cells, start + at, new);
         return;
     }
-    tail.clear();
-    append(tail, new);
-    append(tail, &cells[start + at + n..start + len]);
-    write(cells, start + at, tail);
+    let behind = start + at + new.len();
+    cells.copy_within(start + at + n..start + len, behind);
+    write(cells, start + at, new);
 }

@@ -15,10 +15,10 @@ use std::marker::Model;
 pub(crate) struct Spread<K: Copy, V: Copy> {
     pool: PagePool<(K, V)>,
     order: Vec<Slot>,
-    // The first key of each page in use that has a pair, so that a search over pages reads keys alone, in a row. Nothing
-    // stands behind a key: these are rows as a page has them, and one search serves both.
+    // The first key of each page in use that has a pair, so that a search over pages reads keys alone, in a row.
     firsts: Vec<(K, ())>,
-    tail: Vec<(K, V)>,
+    // How many pages there are up to the one that was changed or approached last: the next look-up most often ends there.
+    near: usize,
 }
 
 impl<K: Copy, V: Copy> Model for Spread<K, V> {
@@ -30,7 +30,7 @@ impl<K: Copy, V: Copy> Model for Spread<K, V> {
 
     ghost view = { λ s. record { pool = s.pool; order = s.order.items; spare = spare s.pool } };
 
-    ghost invariant = { λ s. IsSpread s.pool s.order.items s.firsts.items (vec_capacity s.order) (vec_capacity s.firsts) (vec_capacity s.tail) };
+    ghost invariant = { λ s. IsSpread s.pool s.order.items s.firsts.items (vec_capacity s.order) (vec_capacity s.firsts) };
 }
 
 impl<K: Copy, V: Copy> Spread<K, V> {
@@ -43,7 +43,7 @@ impl<K: Copy, V: Copy> Spread<K, V> {
             pool: PagePool::with_room(alloc, count)?,
             order: Vec::with_capacity(alloc, count as usize)?,
             firsts: Vec::with_capacity(alloc, count as usize)?,
-            tail: Vec::with_capacity(alloc, 64)?,
+            near: 0,
         })
     }
 
@@ -83,6 +83,18 @@ impl<K: Copy, V: Copy> Spread<K, V> {
         &self.firsts
     }
 
+    /// How many pages to look at first. It says nothing of where a key stands.
+    pub(crate) fn near(&self) -> usize {
+        self.near
+    }
+
+    /// Has so many pages looked at first.
+    pub(crate) fn come_near(&mut self, pages: usize)
+        ensures { self.new ≡ self.old }
+    {
+        self.near = pages;
+    }
+
     /// Each page has at most 64 items.
     pub(crate) fn pages_are_small(&self)
         ensures { (i : ℕ) → length (page_of (pages_in self.now) i) ≤ 64 }
@@ -98,8 +110,9 @@ impl<K: Copy, V: Copy> Spread<K, V> {
         ensures pages { pages_in self.new ≡ slice_set (pages_in self.old) i (spliced at n new.now (page_of (pages_in self.old) i)) }
         ensures spare { self.new.spare ≡ self.old.spare }
     {
+        self.near = i.saturating_add(1);
         let slot = self.order[i];
-        self.pool.splice(&slot, at, n, new, &mut self.tail);
+        self.pool.splice(&slot, at, n, new);
         self.firsts[i] = (first_key(self.pool.page(&slot), self.firsts[i].0), ());
     }
 
@@ -112,6 +125,7 @@ impl<K: Copy, V: Copy> Spread<K, V> {
         ensures pages { pages_in self.new ≡ insert (pages_in self.old) i new.now }
         ensures spare { self.new.spare + 1 ≡ self.old.spare }
     {
+        self.near = i.saturating_add(1);
         let slot = self.pool.take(new);
         insert(&mut self.order, i, slot);
         insert(&mut self.firsts, i, (new[0].0, ()));

@@ -176,6 +176,17 @@ impl PieceBook {
         if self.room < count { Some(count) } else { None }
     }
 
+    /// Says that what stands near this number is asked for and changed next, which spares searches. It changes nothing.
+    pub fn approach(&mut self, at: Number)
+        ensures { self.new ≡ self.old }
+    {
+        match at.space() {
+            Space::Asn => self.asn.approach(at.value()),
+            Space::Ipv4 => self.ipv4.approach(at.value()),
+            Space::Ipv6 => self.ipv6.approach(at.value()),
+        }
+    }
+
     /// In one space the pieces that go give way to those that come.
     fn exchange(&mut self, space: Space, change: &Touched)
         requires there { place_of change.now.after.items (pieces_in self.old.partition space) + length change.now.before.items

@@ -161,6 +161,13 @@ impl SpaceBook {
         status_sum(self.walk(), status)
     }
 
+    /// Says that what stands near this value is asked for next. It changes nothing.
+    pub(crate) fn approach(&mut self, value: u128)
+        ensures { self.new ≡ self.old }
+    {
+        self.parts.approach(&value);
+    }
+
     /// The pieces that go give way to those that come. Each change of the pieces is one such exchange.
     pub(crate) fn exchange(&mut self, change: &Touched)
         requires there { place_of change.now.after.items self.old.pieces + length change.now.before.items ≤ length self.old.pieces }

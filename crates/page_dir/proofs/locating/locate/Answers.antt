@@ -1,7 +1,8 @@
-use Rattle.std.proofs.Common.{◌≡◌, ◌+◌, ◌-◌, ◌<◌, length, arith, subst}
+use Rattle.std.proofs.Common.{◌≡◌, ◌+◌, ◌-◌, ◌<◌, ap, length, arith, subst}
 use Rattle.page_dir.specs.Pages.{joined, page_of}
 use Rattle.page_dir.specs.Searching.{FailsAt, IsTurn, PassesAt, stands_before}
 use Rattle.page_dir.specs.Spread.{pages_in}
+use Rattle.page_dir.proofs.Counting.{half_of_pages, page-le-items}
 use Rattle.page_dir.proofs.Halving.{both_halved, bound_within}
 use Rattle.page_dir.proofs.Places.{place_at_front, place_in_page, place_is_inside, down_from_rises, pages-le-items}
 use Rattle.page_dir.proofs.locating.locate.Goals as goal
@@ -33,10 +34,13 @@ returns-clause-before g c =
 
 pub returns-clause-cost : goal.returns-clause-cost
 returns-clause-cost g c =
-    let few = pages-le-items (pages_in c.args.spread.now) (λ i h. (c.requires.enough i h).filled) in
-    both_halved c.args.steps.now c.pages_before-pages.new.steps c.pairs_before-at.new.steps (length (pages_in c.args.spread.now)) (length c.page.result.now)
-    (length (joined (pages_in c.args.spread.now))) c.pages_before-pages.ensures.counted c.pairs_before-at.ensures.counted
-    c.pages_before-pages.ensures.cost c.pairs_before-at.ensures.cost c.page.ensures.within few
+    let ps = pages_in c.args.spread.now in
+    let inside = page-le-items ps (c.pages_before-pages.result - 1) in
+    both_halved c.args.steps.now c.pages_before-pages.new.steps c.pairs_before-at.new.steps (length ps) (length c.page.result.now)
+    (length (joined ps)) c.pages_before-pages.ensures.counted c.pairs_before-at.ensures.counted
+    c.pages_before-pages.ensures.cost c.pairs_before-at.ensures.cost c.page.ensures.within
+    (let same = ap length c.page.ensures.items in omega (arith, same, inside))
+    (half_of_pages ps c.requires.enough)
 
 pub returns-clause-front : goal.returns-clause-front
 returns-clause-front g c = λ none.

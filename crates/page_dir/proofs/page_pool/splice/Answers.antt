@@ -1,7 +1,7 @@
 use Rattle.std.proofs.Common.{◌≡◌, ◌∙◌, ◌++◌, ◌+◌, ◌-◌, ◌≤◌, length, take, drop, ap, sym, arith, refl, length-append}
 use Rattle.page_dir.specs.Regions.{region}
 use Rattle.page_dir.specs.Splices.{spliced}
-use Rattle.page_dir.proofs.Regions.{behind, length-behind, region_elsewhere, region_written, spliced_more}
+use Rattle.page_dir.proofs.Regions.{behind, length-behind, region_elsewhere, region_written, shifted, spliced_more}
 use Rattle.page_dir.proofs.page_pool.splice.Goals as goal
 
 pub returns-then-n-new-clause-here : goal.returns-then-n-new-clause-here
@@ -39,15 +39,11 @@ returns-clause-here g c =
     let back = behind cells new start c.args.len c.args.at n c.requires.there fits in
     let size = length-behind cells new start c.args.len c.args.at n c.requires.there fits in
     let both = length-append new back in
-    let xs = c.deref-2.result.now in
-    let is : xs ≡ new ++ back =
-    c.deref-2.ensures.value ∙ c.append-2.ensures.items
-    ∙ ap (λ ys. ys ++ take (start + c.args.len - (start + c.args.at + n)) (drop (start + c.args.at + n) c.deref.result.now))
-    (c.append.ensures.items ∙ ap (λ ys. ys ++ new) c.clear.ensures.items)
-    ∙ ap (λ cs. new ++ take (start + c.args.len - (start + c.args.at + n)) (drop (start + c.args.at + n) cs)) c.deref.ensures.value in
-    ap (λ cs. region cs start k) c.write-2.ensures.items
-    ∙ region_written cells new start c.args.len c.args.at n c.requires.there fits xs (length xs) k is refl
-    (omega (arith, size, both, ap length is, c.requires.there))
+    ap (λ cs. region cs start k) (
+    c.write-2.ensures.items ∙ ap (spliced (start + c.args.at) (length new) new) c.copy_within.ensures.items
+    ∙ shifted cells new start c.args.len c.args.at n c.requires.there fits c.requires.fits c.requires.cells)
+    ∙ region_written cells new start c.args.len c.args.at n c.requires.there fits (new ++ back) (length new + length back) k refl
+    (omega (arith, both)) (omega (arith, size, c.requires.there))
 
 pub returns-clause-elsewhere : goal.returns-clause-elsewhere
 returns-clause-elsewhere g c = λ i k apart.
@@ -59,13 +55,9 @@ returns-clause-elsewhere g c = λ i k apart.
     let back = behind cells new start c.args.len c.args.at n c.requires.there fits in
     let size = length-behind cells new start c.args.len c.args.at n c.requires.there fits in
     let both = length-append new back in
-    let xs = c.deref-2.result.now in
-    let is : xs ≡ new ++ back =
-    c.deref-2.ensures.value ∙ c.append-2.ensures.items
-    ∙ ap (λ ys. ys ++ take (start + c.args.len - (start + c.args.at + n)) (drop (start + c.args.at + n) c.deref.result.now))
-    (c.append.ensures.items ∙ ap (λ ys. ys ++ new) c.clear.ensures.items)
-    ∙ ap (λ cs. new ++ take (start + c.args.len - (start + c.args.at + n)) (drop (start + c.args.at + n) cs)) c.deref.ensures.value in
-    ap (λ cs. region cs i k) c.write-2.ensures.items
-    ∙ region_elsewhere cells xs (start + c.args.at) (length xs)
-    (omega (arith, size, both, ap length is, c.requires.there, c.requires.cells, c.requires.fits, c.requires.within)) refl start (omega arith)
-    (omega (arith, size, both, ap length is, c.requires.there, c.requires.fits, c.requires.within)) i k apart
+    ap (λ cs. region cs i k) (
+    c.write-2.ensures.items ∙ ap (spliced (start + c.args.at) (length new) new) c.copy_within.ensures.items
+    ∙ shifted cells new start c.args.len c.args.at n c.requires.there fits c.requires.fits c.requires.cells)
+    ∙ region_elsewhere cells (new ++ back) (start + c.args.at) (length new + length back)
+    (omega (arith, size, c.requires.there, c.requires.cells, c.requires.fits, c.requires.within)) (omega (arith, both)) start (omega arith)
+    (omega (arith, size, c.requires.there, c.requires.fits, c.requires.within)) i k apart

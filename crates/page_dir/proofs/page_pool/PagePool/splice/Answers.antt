@@ -58,8 +58,8 @@ invariant_of-self g c =
     pool_spliced c.self.invariant slot head c.get_mut-held.ensures.value after elsewhere k c.splice.ensures.count
     (omega (arith, old, c.requires.there, c.requires.fits)) (vec_capacity c.splice.new.cells) (omega (arith, c.splice.ensures.room))
 
-pub returns-clause-page : goal.returns-clause-page
-returns-clause-page g c =
+pub returns : goal.returns
+returns g c =
     let cells = c.self.inside.cells.items in
     let after = c.splice.new.cells.items in
     let idx = c.index-start.result in

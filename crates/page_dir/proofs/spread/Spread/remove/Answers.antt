@@ -15,7 +15,7 @@ invariant_of-self g c =
     let seen : pages_at pool order ≡ pages_in c.args.self.now = ap pages_in c.self.view_is in
     let len = length-pages_at pool order in
     let i : c.args.i < length order = omega (arith, c.requires, ap length seen, len) in
-    let lives = slot_lives pool order c.self.inside.firsts.items _ _ _ c.args.i slot c.self.invariant i in
+    let lives = slot_lives pool order c.self.inside.firsts.items _ _ c.args.i slot c.self.invariant i in
     let live = ap (held pool) c.remove-slot.ensures.value ∙ lives.1 in
     let firsts = c.self.inside.firsts.items in
     let begin : BeginWith (remove firsts c.args.i) (pages_at (set pool slot None) (remove order c.args.i)) =
@@ -39,7 +39,7 @@ returns-clause-pages g c =
     let seen : pages_at pool order ≡ pages_in c.args.self.now = ap pages_in c.self.view_is in
     let len = length-pages_at pool order in
     let i : c.args.i < length order = omega (arith, c.requires, ap length seen, len) in
-    let lives = slot_lives pool order c.self.inside.firsts.items _ _ _ c.args.i slot c.self.invariant i in
+    let lives = slot_lives pool order c.self.inside.firsts.items _ _ c.args.i slot c.self.invariant i in
     let live = ap (held pool) c.remove-slot.ensures.value ∙ lives.1 in
     ap (λ p. pages_at p c.remove-slot.new.self.items) c.give.ensures.given
     ∙ ap (pages_at (set pool slot None)) c.remove-slot.ensures.items

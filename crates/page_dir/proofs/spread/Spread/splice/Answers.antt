@@ -17,11 +17,11 @@ page-requires g c =
     let seen : pages_at pool order ≡ pages_in c.args.self.now = ap pages_in c.self.view_is in
     let len = length-pages_at pool order in
     let i : c.args.i < length order = omega (arith, c.requires.page, ap length seen, len) in
-    let lives = slot_lives pool order c.self.inside.firsts.items _ _ _ c.args.i slot c.self.invariant i in
+    let lives = slot_lives pool order c.self.inside.firsts.items _ _ c.args.i slot c.self.invariant i in
     let live = ap (held pool) c.index.ensures ∙ lives.1 in
     let new = spliced c.args.at c.args.n c.args.new.now (or_empty (held pool slot)) in
     subst (λ (o : Option (List (g.row.K.Denot × g.row.V.Denot))). IsSome o)
-    (sym (ap (λ p. held p slot) c.splice.ensures.page ∙ written_there pool slot lives.0 new live)) refl
+    (sym (ap (λ p. held p slot) c.splice.ensures ∙ written_there pool slot lives.0 new live)) refl
 
 pub index-requires-2 : goal.index-requires-2
 index-requires-2 g c =
@@ -44,14 +44,14 @@ invariant_of-self g c =
     let seen : pages_at pool order ≡ pages_in c.args.self.now = ap pages_in c.self.view_is in
     let len = length-pages_at pool order in
     let i : c.args.i < length order = omega (arith, c.requires.page, ap length seen, len) in
-    let lives = slot_lives pool order firsts _ _ _ c.args.i slot c.self.invariant i in
+    let lives = slot_lives pool order firsts _ _ c.args.i slot c.self.invariant i in
     let live = ap (held pool) c.index.ensures ∙ lives.1 in
     let page = page_at pool order c.args.i slot lives.0 i c.index.ensures live in
     let old : length (page_of (pages_in c.args.self.now) c.args.i) ≡ length (or_empty (held pool slot)) =
     ap (λ pages. length (page_of pages c.args.i)) (sym seen) ∙ ap length page ∙ ap (λ o. length (or_empty o)) (sym live) in
     let new = spliced c.args.at c.args.n c.args.new.now (or_empty (held pool slot)) in
     let size = length-spliced c.args.at c.args.n c.args.new.now (or_empty (held pool slot)) (omega (arith, old, c.requires.there)) in
-    let there = ap (λ p. held p slot) c.splice.ensures.page ∙ written_there pool slot lives.0 new live in
+    let there = ap (λ p. held p slot) c.splice.ensures ∙ written_there pool slot lives.0 new live in
     let begins : BeginsWith c.first_key.result new =
     subst (λ (o : Option (List (g.row.K.Denot × g.row.V.Denot))). IfSome o (BeginsWith c.first_key.result))
     (sym c.page.ensures.items ∙ there) c.first_key.ensures in
@@ -59,9 +59,9 @@ invariant_of-self g c =
     subst (BeginWith (set firsts c.args.i (c.first_key.result, tt)))
     (sym (pages_written pool slot lives.0 new live c.args.i slot c.self.invariant i (sym c.index.ensures)))
     (begin_set firsts (pages_at pool order) c.args.i (c.first_key.result, tt) new c.self.invariant.begin begins) in
-    rw c.splice.ensures.page (
+    rw c.splice.ensures (
     spread_written pool slot lives.0 new live (set firsts c.args.i (c.first_key.result, tt)) c.self.invariant begin
-    (omega (arith, old, size, c.requires.fits)) (omega arith) c.splice.ensures.tail)
+    (omega (arith, old, size, c.requires.fits)) (omega arith))
 
 pub returns-clause-pages : goal.returns-clause-pages
 returns-clause-pages g c =
@@ -71,11 +71,11 @@ returns-clause-pages g c =
     let seen : pages_at pool order ≡ pages_in c.args.self.now = ap pages_in c.self.view_is in
     let len = length-pages_at pool order in
     let i : c.args.i < length order = omega (arith, c.requires.page, ap length seen, len) in
-    let lives = slot_lives pool order c.self.inside.firsts.items _ _ _ c.args.i slot c.self.invariant i in
+    let lives = slot_lives pool order c.self.inside.firsts.items _ _ c.args.i slot c.self.invariant i in
     let live = ap (held pool) c.index.ensures ∙ lives.1 in
     let page = page_at pool order c.args.i slot lives.0 i c.index.ensures live in
     let new = spliced c.args.at c.args.n c.args.new.now in
-    ap (λ p. pages_at p order) c.splice.ensures.page
+    ap (λ p. pages_at p order) c.splice.ensures
     ∙ pages_written pool slot lives.0 (new (or_empty (held pool slot))) live c.args.i slot c.self.invariant i (sym c.index.ensures)
     ∙ ap (λ p. set (pages_at pool order) c.args.i (new p)) (ap or_empty live ∙ sym page)
     ∙ ap (λ pages. set pages c.args.i (new (page_of pages c.args.i))) seen
@@ -88,8 +88,8 @@ returns-clause-spare g c =
     let seen : pages_at pool order ≡ pages_in c.args.self.now = ap pages_in c.self.view_is in
     let len = length-pages_at pool order in
     let i : c.args.i < length order = omega (arith, c.requires.page, ap length seen, len) in
-    let lives = slot_lives pool order c.self.inside.firsts.items _ _ _ c.args.i slot c.self.invariant i in
+    let lives = slot_lives pool order c.self.inside.firsts.items _ _ c.args.i slot c.self.invariant i in
     let live = ap (held pool) c.index.ensures ∙ lives.1 in
-    ap spare c.splice.ensures.page
+    ap spare c.splice.ensures
     ∙ spare_written pool slot lives.0 (spliced c.args.at c.args.n c.args.new.now (or_empty (held pool slot))) live
     ∙ ap (λ s. s.spare) c.self.view_is

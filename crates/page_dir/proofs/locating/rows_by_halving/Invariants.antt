@@ -1,6 +1,6 @@
 use Rattle.std.proofs.Common.{◌≤◌, ◌*◌, ◌-◌, ◌^◌, length}
 use Rattle.page_dir.specs.Searching.{FailsAt, IsWindow, PassesAt, power_bound, stands_before}
-use Rattle.page_dir.proofs.locating.rows_before.Given as goal
+use Rattle.page_dir.proofs.locating.rows_by_halving.Given as goal
 
 abbrev pub invariant-loop-window : goal.invariant-loop-window
 invariant-loop-window g l = record {
