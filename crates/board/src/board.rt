@@ -130,7 +130,17 @@ impl Board {
         // Laws, for `entries`.
         entries_reach_registers();
         last_cards_change_inside_covers();
+        self.approach(e);
         self.take_in(e);
+    }
+
+    /// Says to the pieces where the entry's cover begins, since all that the entry asks of them and changes lies there.
+    fn approach(&mut self, e: &Entry)
+        ensures { self.new ≡ self.old }
+    {
+        if let Some(range) = &e.cover {
+            self.pieces.approach(range.first_number());
+        }
     }
 
     /// Changes the books as the entry says, and notes its operations.

@@ -1,4 +1,4 @@
-ghost use Rattle.std.specs.Prelude.{◌≡◌, [], ◌∷◌, IfNone, IfSome, filter};
+ghost use Rattle.std.specs.Prelude.{◌≡◌, [], ◌∷◌, IfNone, IfSome, filter, option_copied};
 ghost use Rattle.std.specs.Iterator.{YieldsFirst, item_count};
 ghost use Rattle.op_feed.specs.PieceChanges.{goes, comes, piece_of_range, piece_changes};
 
@@ -29,13 +29,13 @@ impl<'a> Model for ChangeWalk<'a> {
 }
 
 /// The piece of exactly this range.
-fn piece_of_range(pieces: &[Piece], range: &Range) -> Option<Piece>
-    ensures { result ≡ piece_of_range pieces.now range.now }
+fn piece_of_range<'a>(pieces: &'a [Piece], range: &Range) -> Option<&'a Piece>
+    ensures { option_copied result ≡ piece_of_range pieces.now range.now }
 {
     let mut left = pieces;
     while let [piece, rest @ ..] = left {
         if piece.range == *range {
-            return Some(*piece);
+            return Some(piece);
         }
         left = rest;
     }
@@ -52,7 +52,7 @@ fn comes(before: &[Piece], piece: &Piece) -> bool
     ensures { result ≡ comes before.now piece.now }
 {
     match piece_of_range(before, &piece.range) {
-        Some(former) => *piece != former,
+        Some(former) => piece != former,
         None => true,
     }
 }
