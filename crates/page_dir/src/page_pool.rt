@@ -139,14 +139,7 @@ pub(crate) fn append<T: Copy>(items: &mut Vec<T>, new: &[T])
 
 /// In the cells of one page, which has so many items, some of them go from a place on and the new ones come there, once
 /// those behind have moved to where they are to stand.
-fn splice<T: Copy>(
-    cells: &mut Vec<T>,
-    start: usize,
-    len: usize,
-    at: usize,
-    n: usize,
-    new: &[T],
-)
+fn splice<T: Copy>(cells: &mut Vec<T>, start: usize, len: usize, at: usize, n: usize, new: &[T])
     requires there { at + n ≤ len }
     requires fits { len + length new.now ≤ 64 + n }
     requires within { len ≤ 64 }

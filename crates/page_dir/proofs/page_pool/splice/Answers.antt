@@ -1,4 +1,4 @@
-use Rattle.std.proofs.Common.{◌≡◌, ◌∙◌, ◌++◌, ◌+◌, ◌-◌, ◌≤◌, length, take, drop, ap, sym, arith, refl, length-append}
+use Rattle.std.proofs.Common.{◌∙◌, ◌++◌, ◌+◌, ◌-◌, ◌≤◌, length, ap, sym, arith, refl, length-append}
 use Rattle.page_dir.specs.Regions.{region}
 use Rattle.page_dir.specs.Splices.{spliced}
 use Rattle.page_dir.proofs.Regions.{behind, length-behind, region_elsewhere, region_written, shifted, spliced_more}
