@@ -74,7 +74,7 @@ impl Operations {
         self.window.note(act, object);
     }
 
-    /// Notes a new holder.
+    /// Notes that a holder has these fields.
     #[inline(never)]
     fn note_holder(&mut self, holder: &Holder, day: u32)
         requires { self.old.serial + 1 < 2 ^ 64 }
