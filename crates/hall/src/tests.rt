@@ -7,7 +7,7 @@ mod desks;
 use crate::{Backend, Fault, serve};
 use board::{Answer, Board, Lens};
 use connections::{EACH_KIND, ENDS, NARROWEST};
-use link_face::{FailingSink, FailingSource, FixedDay, Joined, MemSink, MemSource};
+use link_face::{FailingLink, FailingSink, FailingSource, FixedDay, Joined, MemSink, MemSource};
 use policy_table::Policy;
 use reg_entry::{Name, Reply, Request, Rooms};
 use std::alloc::{AllocError, Global};
@@ -97,7 +97,19 @@ fn written_of(alloc: Global, bytes: &[u8], end: ConnEnd) -> Result<Outcome, Allo
     Ok(Outcome { end, written })
 }
 
-/// Serves a connection over an empty register.
+/// Serves a connection over an empty register. No other function of these tests owns a board, and this one has one end behind
+/// it.
+fn end_of(
+    alloc: Global,
+    link: &mut FailingLink<'_>,
+    framer: &mut Framer,
+    policy: &Policy,
+) -> Result<ConnEnd, AllocError> {
+    let mut board = Board::with_room(alloc, ROOMS)?;
+    let clock = FixedDay(DAY);
+    Ok(serve(alloc, link, framer, &mut board, policy, &clock))
+}
+
 fn served(alloc: Global, trial: &Trial<'_>) -> Result<Option<Outcome>, AllocError> {
     if trial.piece == 0 {
         return Ok(None);
@@ -106,20 +118,11 @@ fn served(alloc: Global, trial: &Trial<'_>) -> Result<Option<Outcome>, AllocErro
     let Ok(policy) = Policy::read(alloc, POLICY) else {
         return Ok(None);
     };
-    let mut link = Joined {
+    let mut link: FailingLink<'_> = Joined {
         source: FailingSource::new(MemSource::in_pieces(trial.input, trial.piece), trial.reads),
         sink: FailingSink::new(MemSink::new(alloc), trial.writes, 10),
     };
-    // Behind the board there is one end.
-    let mut board = Board::with_room(alloc, ROOMS)?;
-    let end = serve(
-        alloc,
-        &mut link,
-        &mut framer,
-        &mut board,
-        &policy,
-        &FixedDay(DAY),
-    );
+    let end = end_of(alloc, &mut link, &mut framer, &policy)?;
     written_of(alloc, link.sink.bytes(), end).map(Some)
 }
 

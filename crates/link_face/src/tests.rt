@@ -6,6 +6,7 @@ use crate::{
     Clock, Failed, FailingSink, FailingSource, FixedDay, InSource, MemSink, MemSource, OutSink,
     Sink, Source, SystemDay,
 };
+use std::alloc::Global;
 use std::time::Duration;
 use std::{io, rt};
 
@@ -55,23 +56,56 @@ fn copies_in_any_pieces(rt: HostRuntime) {
     }
 }
 
+// Whether the copy stops at the failed call, where this was copied, and the next try goes on there.
+fn stops_and_goes_on(source: &mut FailingSource<'_>, sink: &mut MemSink, copied: &str) -> bool {
+    copy(source, sink) == Err(Failed)
+        && sink.bytes() == copied.as_bytes()
+        && (source.faults(), sink.faults()) == (1, 0)
+        && copy(source, sink) == Ok(())
+        && sink.bytes() == TEXT
+        && source.left() == b"".as_slice()
+}
+
+fn fails_at_read(alloc: Global, call: u64, copied: &str) -> bool {
+    let calls = [call];
+    let mut source = FailingSource::new(MemSource::in_pieces(TEXT, 3), &calls);
+    let mut sink = MemSink::new(alloc);
+    stops_and_goes_on(&mut source, &mut sink, copied)
+}
+
 #[test]
 fn each_read_fails_in_turn(rt: HostRuntime) {
     // Four pieces of three bytes or less, and the read that tells the end.
     let copied = ["", "012", "012345", "012345678", "0123456789"];
     for call in 0..copied.len() {
-        let calls = [call as u64];
-        let mut source = FailingSource::new(MemSource::in_pieces(TEXT, 3), &calls);
-        let mut sink = MemSink::new(rt.alloc());
-        assert_eq!(rt; copy(&mut source, &mut sink), Err(Failed), "at read {call}");
-        assert_eq!(rt; sink.bytes(), copied[call].as_bytes(), "at read {call}");
-        assert_eq!(rt; (source.faults(), sink.faults()), (1, 0), "at read {call}");
-
-        // The next try goes on where the fault was.
-        assert_eq!(rt; copy(&mut source, &mut sink), Ok(()), "after read {call}");
-        assert_eq!(rt; sink.bytes(), TEXT, "after read {call}");
-        assert_eq!(rt; source.left(), b"".as_slice(), "after read {call}");
+        assert!(rt;
+            fails_at_read(rt.alloc(), call as u64, copied[call]),
+            "at read {call}"
+        );
     }
+}
+
+// Whether the copy ends so, with this written and so many faults.
+fn is_copied(
+    sink: &mut FailingSink<'_>,
+    ends: Result<(), Failed>,
+    written: &[u8],
+    faults: u64,
+) -> bool {
+    copy(&mut MemSource::new(TEXT), sink) == ends
+        && sink.bytes() == written
+        && sink.faults() == faults
+}
+
+fn fails_at_write(alloc: Global, call: u64, passes: usize, written: &str) -> bool {
+    let calls = [call];
+    let mut sink = FailingSink::new(MemSink::new(alloc), &calls, passes);
+    is_copied(&mut sink, Err(Failed), written.as_bytes(), 1)
+}
+
+fn fails_behind_its_writes(alloc: Global) -> bool {
+    let mut sink = FailingSink::new(MemSink::new(alloc), &[3], 0);
+    is_copied(&mut sink, Ok(()), TEXT, 0)
 }
 
 #[test]
@@ -88,21 +122,12 @@ fn each_write_fails_in_turn(rt: HostRuntime) {
         (2, 2, "0123456789"),
     ];
     for (call, passes, written) in table {
-        let calls = [call];
-        let mut source = MemSource::new(TEXT);
-        let mut sink = FailingSink::new(MemSink::new(rt.alloc()), &calls, passes);
-        let copied = copy(&mut source, &mut sink);
-        assert_eq!(rt; copied, Err(Failed), "at write {call}");
-        assert_eq!(rt;
-            sink.bytes(),
-            written.as_bytes(),
+        assert!(rt;
+            fails_at_write(rt.alloc(), call, passes, written),
             "at write {call}, {passes} bytes"
         );
-        assert_eq!(rt; sink.faults(), 1, "at write {call}");
     }
-    let mut sink = FailingSink::new(MemSink::new(rt.alloc()), &[3], 0);
-    assert_eq!(rt; copy(&mut MemSource::new(TEXT), &mut sink), Ok(()));
-    assert_eq!(rt; (sink.bytes(), sink.faults()), (TEXT, 0));
+    assert!(rt; fails_behind_its_writes(rt.alloc()));
 }
 
 // A reader of one byte, behind a signal and before a fault. Behind its end it would give bytes again.
@@ -127,39 +152,47 @@ impl io::Read for Shaken {
     }
 }
 
+fn reads_all(alloc: Global) -> bool {
+    let mut sink = MemSink::new(alloc);
+    let mut whole = InSource::new(TEXT);
+    copy(&mut whole, &mut sink) == Ok(()) && (sink.bytes(), whole.faults()) == (TEXT, 0)
+}
+
+// The end is for good: what the reader would give behind it isn't asked for.
+fn reads_up_to_its_end(shaken: &mut InSource<Shaken>, sink: &mut MemSink) -> bool {
+    copy(shaken, sink) == Err(Failed)
+        && (sink.bytes(), shaken.faults()) == (b"7".as_slice(), 1)
+        && copy(shaken, sink) == Ok(())
+        && copy(shaken, sink) == Ok(())
+        && (sink.bytes(), shaken.faults()) == (b"7".as_slice(), 1)
+}
+
 #[test]
 fn reads_from_a_reader(rt: HostRuntime) {
     let mut sink = MemSink::new(rt.alloc());
-    let mut whole = InSource::new(TEXT);
-    assert_eq!(rt; copy(&mut whole, &mut sink), Ok(()));
-    assert_eq!(rt; (sink.bytes(), whole.faults()), (TEXT, 0));
-
-    let mut sink = MemSink::new(rt.alloc());
     let mut shaken = InSource::new(Shaken { turn: 0 });
-    assert_eq!(rt; copy(&mut shaken, &mut sink), Err(Failed));
-    assert_eq!(rt; (sink.bytes(), shaken.faults()), (b"7".as_slice(), 1));
-    assert_eq!(rt; copy(&mut shaken, &mut sink), Ok(()));
+    let reads = reads_up_to_its_end(&mut shaken, &mut sink);
+    assert!(rt; reads && reads_all(rt.alloc()));
+}
 
-    // The end is for good: what the reader would give behind it isn't asked for.
-    assert_eq!(rt; copy(&mut shaken, &mut sink), Ok(()));
-    assert_eq!(rt; (sink.bytes(), shaken.faults()), (b"7".as_slice(), 1));
+fn is_read_up_to(source: &mut InSource<&[u8]>, sink: &mut MemSink, budget: usize) -> bool {
+    let is_whole = budget > TEXT.len();
+    (copy(source, sink) == Ok(())) == is_whole
+        && sink.bytes() == &TEXT[..budget.min(TEXT.len())]
+        && (source.faults() == 0) == is_whole
+}
+
+fn reads_up_to(alloc: Global, budget: usize) -> bool {
+    let mut sink = MemSink::new(alloc);
+    let mut source = InSource::with_budget(TEXT, budget as u64);
+    is_read_up_to(&mut source, &mut sink, budget)
 }
 
 // Each byte of the budget is used, and one is left over where the end is told.
 #[test]
 fn reads_up_to_the_budget(rt: HostRuntime) {
     for budget in 0..13usize {
-        let mut sink = MemSink::new(rt.alloc());
-        let mut source = InSource::with_budget(TEXT, budget as u64);
-        let told = copy(&mut source, &mut sink);
-        assert_eq!(rt; told == Ok(()), budget > TEXT.len(), "with {budget} bytes");
-        let most = budget.min(TEXT.len());
-        assert_eq!(rt; sink.bytes(), &TEXT[..most], "with {budget} bytes");
-        assert_eq!(rt;
-            source.faults() == 0,
-            budget > TEXT.len(),
-            "with {budget} bytes"
-        );
+        assert!(rt; reads_up_to(rt.alloc(), budget), "with {budget} bytes");
     }
 }
 
@@ -190,21 +223,22 @@ impl io::Write for Stuck {
     }
 }
 
+fn is_full() -> bool {
+    let mut full = OutSink::new(Full);
+    full.write(TEXT) == Err(Failed) && full.faults() == 1
+}
+
+fn is_stuck() -> bool {
+    let mut stuck = OutSink::new(Stuck);
+    stuck.write(TEXT) == Err(Failed) && stuck.faults() == 1
+}
+
 #[test]
 fn writes_to_a_writer(rt: HostRuntime) {
     let mut bytes = Vec::new(rt.alloc());
     let mut sink = OutSink::new(&mut bytes);
-    assert_eq!(rt; copy(&mut MemSource::new(TEXT), &mut sink), Ok(()));
-    assert_eq!(rt; sink.faults(), 0);
-    assert_eq!(rt; bytes.as_slice(), TEXT);
-
-    let mut full = OutSink::new(Full);
-    assert_eq!(rt; full.write(TEXT), Err(Failed));
-    assert_eq!(rt; full.faults(), 1);
-
-    let mut stuck = OutSink::new(Stuck);
-    assert_eq!(rt; stuck.write(TEXT), Err(Failed));
-    assert_eq!(rt; stuck.faults(), 1);
+    let copied = copy(&mut MemSource::new(TEXT), &mut sink) == Ok(()) && sink.faults() == 0;
+    assert!(rt; copied && bytes.as_slice() == TEXT && is_full() && is_stuck());
 }
 
 // A system clock that stands so many seconds after 1970-01-01, or before it.

@@ -267,8 +267,22 @@ fn first_wrong(alloc: Global, board: &Board, answers: &str, members: &str) -> Re
     Ok(0)
 }
 
-/// The same of a register of its own, once the rows were taken. No other function of the tests owns a board, and this one
-/// has one end behind it, since each end proves again that all of the board is dropped.
+/// The same, once the rows were taken.
+fn first_wrong_behind(
+    alloc: Global,
+    board: &mut Board,
+    rows: &[Row],
+    answers: &str,
+    members: &str,
+) -> Result<usize, Fail> {
+    match first_refused(board, rows) {
+        Some(i) => Ok(i.saturating_add(201)),
+        None => first_wrong(alloc, board, answers, members),
+    }
+}
+
+/// The same of a register of its own. No other function of the tests owns a board, and this one has one end behind it, since
+/// each end proves again that all of the board is dropped.
 fn first_wrong_of_rows(
     alloc: Global,
     rows: &[Row],
@@ -276,10 +290,7 @@ fn first_wrong_of_rows(
     members: &str,
 ) -> Result<usize, Fail> {
     let mut board = Board::with_room(alloc, ROOMS)?;
-    match first_refused(&mut board, rows) {
-        Some(i) => Ok(i.saturating_add(201)),
-        None => first_wrong(alloc, &board, answers, members),
-    }
+    first_wrong_behind(alloc, &mut board, rows, answers, members)
 }
 
 #[test]

@@ -3,9 +3,10 @@ ghost use Rattle.reg_entry.specs.Decision.{refuse_if};
 
 use crate::{Handle, Kind, Status};
 use num_range::{Number, Range};
+use std::fmt;
 
 /// Why a request is refused. Of several reasons the first in this order is given.
-#[derive(Clone, Copy, Debug, PartialEq, Eq)]
+#[derive(Clone, Copy, PartialEq, Eq)]
 pub enum Refusal {
     /// The line isn't in the desk language. The place counts its bytes from 1.
     Malformed { place: u32 },
@@ -64,10 +65,49 @@ pub enum Refusal {
 }
 
 impl Refusal {
+    fn name(&self) -> &'static str {
+        match self {
+            Refusal::Malformed { .. } => "Malformed",
+            Refusal::UnknownHostmaster => "UnknownHostmaster",
+            Refusal::OutsidePool { .. } => "OutsidePool",
+            Refusal::NotOnePiece { .. } => "NotOnePiece",
+            Refusal::WrongStatus { .. } => "WrongStatus",
+            Refusal::UnknownHolder { .. } => "UnknownHolder",
+            Refusal::NotHolder { .. } => "NotHolder",
+            Refusal::HandleTaken => "HandleTaken",
+            Refusal::Overlap { .. } => "Overlap",
+            Refusal::NoSub => "NoSub",
+            Refusal::NoReverse => "NoReverse",
+            Refusal::CardsDiffer { .. } => "CardsDiffer",
+            Refusal::LengthOutOfPolicy { .. } => "LengthOutOfPolicy",
+            Refusal::HolderKind { .. } => "HolderKind",
+            Refusal::OverCap { .. } => "OverCap",
+            Refusal::UnderUsed { .. } => "UnderUsed",
+            Refusal::HoldTime { .. } => "HoldTime",
+            Refusal::NotDue { .. } => "NotDue",
+            Refusal::HasSubs { .. } => "HasSubs",
+            Refusal::Straddled { .. } => "Straddled",
+            Refusal::NoBlock => "NoBlock",
+            Refusal::NoReverseSpace => "NoReverseSpace",
+            Refusal::RegisterFull { .. } => "RegisterFull",
+            Refusal::HoldersFull { .. } => "HoldersFull",
+            Refusal::JournalFull { .. } => "JournalFull",
+            Refusal::SubsFull { .. } => "SubsFull",
+            Refusal::ReverseFull { .. } => "ReverseFull",
+        }
+    }
+
     /// This refusal, where its condition holds.
     pub fn when(self, condition: bool) -> Option<Refusal>
         ensures { result ≡ refuse_if condition self }
     {
         if condition { Some(self) } else { None }
+    }
+}
+
+/// The name alone: the values are told by a reply's text.
+impl fmt::Debug for Refusal {
+    fn fmt<W: fmt::Write>(&self, f: &mut fmt::Formatter<W>) -> fmt::Result {
+        f.write_str(self.name())
     }
 }

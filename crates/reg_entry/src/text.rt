@@ -28,7 +28,7 @@ impl Model for Text {
 fn is_text_byte(b: u8) -> bool
     ensures { result ≡ is_text_byte b }
 {
-    matches!(b, b' '..=b'~') && b != b'"' && b != b'#' && b != b'\\'
+    b' ' <= b && b <= b'~' && b != b'"' && b != b'#' && b != b'\\'
 }
 
 fn all_text_bytes(bytes: &[u8]) -> bool

@@ -18,10 +18,11 @@ pub fn write_held<K: Sink>(held: &mut HeldReplies, out: &mut K) -> Result<(), Fa
     ensures err { OnErr result (IsFrontWritten (K.written out.old) held.old.items (K.written out.new)) }
     ensures cause { HasCause (K.faults out.old) (K.faults out.new) result }
 {
-    if !held.is_empty() {
-        out.write(held.as_slice())?;
-        held.clear();
+    if held.is_empty() {
+        return Ok(());
     }
+    out.write(held.as_slice())?;
+    held.clear();
     Ok(())
 }
 

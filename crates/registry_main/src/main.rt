@@ -19,8 +19,6 @@ mod policy_bytes;
 mod policy_file;
 mod publish;
 mod run;
-#[cfg(test)]
-mod samples;
 mod serve;
 mod session;
 

@@ -241,6 +241,3 @@ pub fn run<
         Err(_) => Exit::NoMemory,
     }
 }
-
-#[cfg(test)]
-mod tests;

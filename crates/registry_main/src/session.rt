@@ -9,8 +9,7 @@ ghost use Rattle.reg_entry.specs.Register.{piece_of};
 ghost use Rattle.desk_text.specs.ReplyText.{reply_text};
 ghost use Rattle.registry_main.specs.Answer.{answer_text};
 ghost use Rattle.registry_main.specs.Session.{new_session, decided, after_reply, shown_text, step_of, answered};
-ghost use Rattle.registry_main.specs.Published.{session_text};
-ghost use Rattle.command_words.specs.declared.command.Publication.TheVariants.{Statistics};
+ghost use Rattle.delegated_ext.specs.StatisticsText.{statistics_text};
 ghost use Rattle.reverse_zone.specs.Apex.{IsApex};
 ghost use Rattle.reverse_zone.specs.Zone.{in_pool, zone_text};
 
@@ -209,7 +208,7 @@ impl Session {
 
     /// The statistics file of the register.
     pub fn statistics(&self, alloc: Global) -> Result<Body, AllocError>
-        ensures { IfOk result (λ body. body ≡ session_text Statistics self.now) }
+        ensures { IfOk result (λ body. body ≡ statistics_text self.now.register self.now.policy.registry) }
     {
         write_stats(alloc, &self.board, self.policy.registry())
     }
@@ -230,6 +229,3 @@ impl Session {
         write_zone(alloc, &self.board, self.policy.zone(), apex)
     }
 }
-
-#[cfg(test)]
-mod tests;

@@ -147,38 +147,81 @@ fn is_joined(text: &[u8], wanted: &[&[u8]]) -> bool {
     rest.is_empty()
 }
 
+// Whether a service ends so, and this was written to the connections that came back.
+fn is_served<R: Threads + Wait + Sync, P: Spawner>(
+    rt: &R,
+    alloc: Global,
+    gate: &mut MemGate<MemLink<'static>>,
+    spawner: &mut P,
+    ends: Result<u64, ServeFault>,
+    wanted: &[&[u8]],
+) -> Result<bool, AllocError> {
+    let ended = serves(rt, alloc, gate, spawner) == Some(ends);
+    let text = written(alloc, gate.returned())?;
+    Ok(ended && is_joined(&text, wanted))
+}
+
+// The same through a gate of its own.
+fn is_served_through_one<R: Threads + Wait + Sync, P: Spawner>(
+    rt: &R,
+    alloc: Global,
+    spawner: &mut P,
+    ends: Result<u64, ServeFault>,
+    wanted: &[&[u8]],
+) -> Result<bool, AllocError> {
+    let mut gate = gate_of(alloc)?;
+    is_served(rt, alloc, &mut gate, spawner, ends, wanted)
+}
+
 #[test]
 fn serves_both_doors(rt: HostRuntime) -> Result<(), Fail> {
     let wanted = [RECEIVED, HELPED, ANSWER];
-    let mut gate = gate_of(rt.alloc())?;
-    assert!(rt; serves(&rt, rt.alloc(), &mut gate, &mut InTurn) == Some(Ok(3)));
-    assert!(rt; is_joined(&written(rt.alloc(), gate.returned())?, &wanted));
-    let mut gate = gate_of(rt.alloc())?;
-    let mut spawner = ThreadSpawner::new();
-    assert!(rt; serves(&rt, rt.alloc(), &mut gate, &mut spawner) == Some(Ok(3)));
-    assert!(rt; is_joined(&written(rt.alloc(), gate.returned())?, &wanted));
+    assert!(rt; is_served_through_one(&rt, rt.alloc(), &mut InTurn, Ok(3), &wanted)?);
+    let mut threads = ThreadSpawner::new();
+    assert!(rt; is_served_through_one(&rt, rt.alloc(), &mut threads, Ok(3), &wanted)?);
     Ok(())
 }
 
-// The gate gives no way at its second door; then the way of lines fails at its second accept.
+// Whether the gate fails so often, and this was written to the connections that came back.
+fn is_failed<R: Threads + Wait + Sync>(
+    rt: &R,
+    alloc: Global,
+    gate: &mut FailingGate<'_, MemLink<'static>>,
+    faults: u64,
+    wanted: &[&[u8]],
+) -> Result<bool, AllocError> {
+    let ended = serves(rt, alloc, gate, &mut InTurn) == Some(Err(ServeFault::Gate));
+    let text = written(alloc, gate.returned())?;
+    Ok(ended && gate.faults() == faults && is_joined(&text, wanted))
+}
+
+// The same of a gate that fails at these calls, whose ways fail at those.
+fn fails_at<R: Threads + Wait + Sync>(
+    rt: &R,
+    alloc: Global,
+    calls: &[u64],
+    accepts: &[u64],
+    faults: u64,
+    wanted: &[&[u8]],
+) -> Result<bool, AllocError> {
+    let mut gate = FailingGate::new(gate_of(alloc)?, calls, accepts);
+    is_failed(rt, alloc, &mut gate, faults, wanted)
+}
+
+// The gate gives no way at its second door; then each way fails at its second accept.
 #[test]
 fn gates_fail(rt: HostRuntime) -> Result<(), Fail> {
-    let mut gate = FailingGate::new(gate_of(rt.alloc())?, &[1], &[]);
-    assert!(rt; serves(&rt, rt.alloc(), &mut gate, &mut InTurn) == Some(Err(ServeFault::Gate)));
-    assert!(rt; gate.faults() == 1 && gate.returned().is_empty());
-    let mut gate = FailingGate::new(gate_of(rt.alloc())?, &[], &[1]);
-    assert!(rt; serves(&rt, rt.alloc(), &mut gate, &mut InTurn) == Some(Err(ServeFault::Gate)));
-    assert!(rt; is_joined(&written(rt.alloc(), gate.returned())?, &[RECEIVED, ANSWER]));
+    assert!(rt; fails_at(&rt, rt.alloc(), &[1], &[], 1, &[])?);
+    assert!(rt; fails_at(&rt, rt.alloc(), &[], &[1], 2, &[RECEIVED, ANSWER])?);
     Ok(())
 }
 
 // The duty of lines comes back.
 #[test]
 fn spawners_fail(rt: HostRuntime) -> Result<(), Fail> {
-    let mut gate = gate_of(rt.alloc())?;
     let mut spawner = FailingInTurn::new(&[1]);
-    assert!(rt; serves(&rt, rt.alloc(), &mut gate, &mut spawner) == Some(Err(ServeFault::Spawn)));
-    assert!(rt; spawner.faults() == 1);
-    assert!(rt; is_joined(&written(rt.alloc(), gate.returned())?, &[RECEIVED, HELPED]));
+    let ends = Err(ServeFault::Spawn);
+    let served = is_served_through_one(&rt, rt.alloc(), &mut spawner, ends, &[RECEIVED, HELPED])?;
+    assert!(rt; served && spawner.faults() == 1);
     Ok(())
 }

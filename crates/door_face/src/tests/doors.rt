@@ -103,32 +103,46 @@ fn written(alloc: Global, ways: &[MemWay<MemLink<'_>>]) -> Result<Vec<u8>, Alloc
 // Two connections, and then none.
 const TWO: [Result<bool, Failed>; 3] = [Ok(true), Ok(true), Ok(false)];
 
+fn gives_each_once(alloc: Global, gate: &mut MemGate<MemLink<'_>>) -> Result<bool, AllocError> {
+    let line = serves_next_way(gate, Door::Line, &TWO);
+    let http = serves_next_way(gate, Door::Http, &TWO);
+    let next = serves_next_way(gate, Door::Line, &TWO);
+    let text = written(alloc, gate.returned())?;
+    Ok(
+        (line, http, next) == (Some(true), Some(true), None)
+            && text.as_slice() == b"three,,.one,two,.".as_slice()
+            && gate.faults() == 1,
+    )
+}
+
 #[test]
 fn gives_each_way_and_link_once(rt: HostRuntime) -> Result<(), Fail> {
     let mut gate = gate_of(rt.alloc())?;
-    let line = serves_next_way(&mut gate, Door::Line, &TWO);
-    let http = serves_next_way(&mut gate, Door::Http, &TWO);
-    let next = serves_next_way(&mut gate, Door::Line, &TWO);
-    let text = written(rt.alloc(), gate.returned())?;
-    let faults = gate.faults();
-    assert!(rt; (line, http, next) == (Some(true), Some(true), None));
-    assert_eq!(rt; text.as_slice(), b"three,,.one,two,.".as_slice());
-    assert_eq!(rt; faults, 1);
+    assert!(rt; gives_each_once(rt.alloc(), &mut gate)?);
     Ok(())
 }
 
 // The gate fails at its first call, and its way at the second accept.
+fn fails_as_planned(
+    alloc: Global,
+    gate: &mut FailingGate<'_, MemLink<'_>>,
+) -> Result<bool, AllocError> {
+    let wanted = [Ok(true), Err(Failed), Ok(true), Ok(false)];
+    let first = serves_next_way(gate, Door::Http, &wanted);
+    let faults = gate.faults();
+    let second = serves_next_way(gate, Door::Http, &wanted);
+    let text = written(alloc, gate.returned())?;
+    Ok(
+        (first, faults) == (None, 1)
+            && (second, gate.faults()) == (Some(true), 2)
+            && text.as_slice() == b"one,two,.".as_slice(),
+    )
+}
+
 #[test]
 fn fails_at_chosen_calls(rt: HostRuntime) -> Result<(), Fail> {
     let mut gate = FailingGate::new(gate_of(rt.alloc())?, &[0], &[1]);
-    let wanted = [Ok(true), Err(Failed), Ok(true), Ok(false)];
-    let first = serves_next_way(&mut gate, Door::Http, &wanted);
-    let faults = gate.faults();
-    let second = serves_next_way(&mut gate, Door::Http, &wanted);
-    let text = written(rt.alloc(), gate.returned())?;
-    assert!(rt; (first, faults) == (None, 1));
-    assert!(rt; (second, gate.faults()) == (Some(true), 2));
-    assert_eq!(rt; text.as_slice(), b"one,two,.".as_slice());
+    assert!(rt; fails_as_planned(rt.alloc(), &mut gate)?);
     Ok(())
 }
 

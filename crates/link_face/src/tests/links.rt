@@ -1,5 +1,5 @@
 //! A conversation on one connection.
-ghost use Rattle.std.specs.Prelude.{◌≡◌, ◌++◌, ℕ, List, IfSome, OnOk};
+ghost use Rattle.std.specs.Prelude.{◌≡◌, ◌<◌, ◌++◌, ℕ, List, IfSome, OnOk};
 ghost use Rattle.std.specs.Io.KnownBytes.{Appends};
 ghost use Rattle.link_face.specs.Faults.{HasCause};
 
@@ -34,23 +34,46 @@ fn echo_bytes(link: &mut MemLink<'_>) -> Result<(), Failed>
     echo(link)
 }
 
+fn is_sent_back(link: &mut MemLink<'_>) -> bool {
+    echo_bytes(link) == Ok(()) && link.sink.bytes() == TEXT && link.source.left() == b"".as_slice()
+}
+
+fn sends_back(alloc: Global, piece: usize) -> bool
+    requires { 0 < piece }
+{
+    let mut link = Joined {
+        source: MemSource::in_pieces(TEXT, piece),
+        sink: MemSink::new(alloc),
+    };
+    is_sent_back(&mut link)
+}
+
 #[test]
 fn sends_back_what_comes(rt: HostRuntime) {
     for piece in [1, 3, 4, 10, usize::MAX] {
-        let mut link = Joined {
-            source: MemSource::in_pieces(TEXT, piece),
-            sink: MemSink::new(rt.alloc()),
-        };
-        assert_eq!(rt; echo_bytes(&mut link), Ok(()), "in pieces of {piece}");
-        assert_eq!(rt; link.sink.bytes(), TEXT, "in pieces of {piece}");
-        assert_eq!(rt; link.source.left(), b"".as_slice(), "in pieces of {piece}");
+        assert!(rt; sends_back(rt.alloc(), piece), "in pieces of {piece}");
     }
+}
+
+fn is_ended(link: &mut FailingLink<'_>, written: &str) -> bool {
+    let ended = echo(link) == Err(Failed) && link.sink.bytes() == written.as_bytes();
+    let faults = (link.source.faults(), link.sink.faults());
+    ended && (faults == (1, 0) || faults == (0, 1))
+}
+
+// Pieces of three bytes; a failed write lets one byte through.
+fn ends_at(alloc: Global, read: u64, write: u64, written: &str) -> bool {
+    let (reads, writes) = ([read], [write]);
+    let mut link: FailingLink<'_> = Joined {
+        source: FailingSource::new(MemSource::in_pieces(TEXT, 3), &reads),
+        sink: FailingSink::new(MemSink::new(alloc), &writes, 1),
+    };
+    is_ended(&mut link, written)
 }
 
 // Of the two plans that which comes first ends the conversation.
 #[test]
 fn ends_where_the_link_fails(rt: HostRuntime) {
-    // Pieces of three bytes; a failed write lets one byte through.
     let table = [
         (0, 9, ""),
         (1, 9, "012"),
@@ -61,27 +84,20 @@ fn ends_where_the_link_fails(rt: HostRuntime) {
         (2, 1, "0123"),
     ];
     for (read, write, written) in table {
-        let (reads, writes) = ([read], [write]);
-        let mut link: FailingLink<'_> = Joined {
-            source: FailingSource::new(MemSource::in_pieces(TEXT, 3), &reads),
-            sink: FailingSink::new(MemSink::new(rt.alloc()), &writes, 1),
-        };
-        assert_eq!(rt;
-            echo(&mut link),
-            Err(Failed),
-            "at read {read}, write {write}"
-        );
-        assert_eq!(rt;
-            link.sink.bytes(),
-            written.as_bytes(),
-            "at read {read}, write {write}"
-        );
-        let faults = (link.source.faults(), link.sink.faults());
         assert!(rt;
-            faults == (1, 0) || faults == (0, 1),
+            ends_at(rt.alloc(), read, write, written),
             "at read {read}, write {write}"
         );
     }
+}
+
+fn is_echoed(client: &mut TcpStream, link: &mut SocketLink) -> io::Result<bool> {
+    client.write_all(TEXT)?;
+    client.shutdown(Shutdown::Write)?;
+    let echoed = echo(link) == Ok(());
+    let mut back = [0; 10];
+    client.read_exact(&mut back)?;
+    Ok(echoed && back.as_slice() == TEXT && (link.source.faults(), link.sink.faults()) == (0, 0))
 }
 
 #[test]
@@ -89,13 +105,7 @@ fn speaks_over_a_socket(rt: HostRuntime) -> Result<(), Fail> {
     let listener = TcpListener::bind(&rt, "127.0.0.1:0")?;
     let mut client = TcpStream::connect(&rt, listener.local_addr()?)?;
     let (stream, _) = listener.accept()?;
-    client.write_all(TEXT)?;
-    client.shutdown(Shutdown::Write)?;
     let mut link = SocketLink::new(stream).map_err(|_| "no second handle")?;
-    assert_eq!(rt; echo(&mut link), Ok(()));
-    let mut back = [0; 10];
-    client.read_exact(&mut back)?;
-    assert_eq!(rt; back.as_slice(), TEXT);
-    assert_eq!(rt; (link.source.faults(), link.sink.faults()), (0, 0));
+    assert!(rt; is_echoed(&mut client, &mut link)?);
     Ok(())
 }
