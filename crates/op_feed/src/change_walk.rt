@@ -58,14 +58,14 @@ fn comes(before: &[Piece], piece: &Piece) -> bool
 }
 
 /// The first old piece whose range no new one has, and the old pieces behind it.
-fn first_gone<'a>(old: &'a [Piece], after: &[Piece]) -> Option<(Piece, &'a [Piece])>
-    ensures some { IfSome result (λ next. filter (goes after.now) old.now ≡ next.0 ∷ filter (goes after.now) next.1.now) }
+fn first_gone<'a>(old: &'a [Piece], after: &[Piece]) -> Option<(&'a Piece, &'a [Piece])>
+    ensures some { IfSome result (λ next. filter (goes after.now) old.now ≡ next.0.now ∷ filter (goes after.now) next.1.now) }
     ensures none { IfNone result (filter (goes after.now) old.now ≡ []) }
 {
     let mut left = old;
     while let [piece, rest @ ..] = left {
         if goes(after, piece) {
-            return Some((*piece, rest));
+            return Some((piece, rest));
         }
         left = rest;
     }
@@ -73,14 +73,14 @@ fn first_gone<'a>(old: &'a [Piece], after: &[Piece]) -> Option<(Piece, &'a [Piec
 }
 
 /// The first new piece that wasn't there before, and the new pieces behind it.
-fn first_come<'a>(new: &'a [Piece], before: &[Piece]) -> Option<(Piece, &'a [Piece])>
-    ensures some { IfSome result (λ next. filter (comes before.now) new.now ≡ next.0 ∷ filter (comes before.now) next.1.now) }
+fn first_come<'a>(new: &'a [Piece], before: &[Piece]) -> Option<(&'a Piece, &'a [Piece])>
+    ensures some { IfSome result (λ next. filter (comes before.now) new.now ≡ next.0.now ∷ filter (comes before.now) next.1.now) }
     ensures none { IfNone result (filter (comes before.now) new.now ≡ []) }
 {
     let mut left = new;
     while let [piece, rest @ ..] = left {
         if comes(before, piece) {
-            return Some((*piece, rest));
+            return Some((piece, rest));
         }
         left = rest;
     }
@@ -111,11 +111,11 @@ impl Iterator for ChangeWalk<'_> {
     fn next(&mut self) -> Option<(Act, Piece)> {
         if let Some((piece, rest)) = first_gone(self.old, self.after) {
             self.old = rest;
-            return Some((Act::Del, piece));
+            return Some((Act::Del, *piece));
         }
         if let Some((piece, rest)) = first_come(self.new, self.before) {
             self.new = rest;
-            return Some((Act::Add, piece));
+            return Some((Act::Add, *piece));
         }
         None
     }

@@ -124,25 +124,25 @@ bound_is_some count = elim (cases_lt 1 count) [
   | inr h ↦ (let e = bound_of_one count (omega arith) in omega (arith, e))
 ]
 
--- two comparisons alone
-pub two_alone : (first last count : ℕ) → last ≤ first + 2 → 2 ^ (last - first) ≤ 8 * power_bound count
-two_alone first last count few =
-    let most = pow_rises (last - first) 2 (omega arith) in
+-- four comparisons alone
+pub four_alone : (first last count : ℕ) → last ≤ first + 4 → 2 ^ (last - first) ≤ 32 * power_bound count
+four_alone first last count few =
+    let most = pow_rises (last - first) 4 (omega arith) in
     let some = bound_is_some count in
     omega (arith, most, some)
 
--- two comparisons before halvings
-pub two_first : (first then last count : ℕ) → first ≤ then → then ≤ first + 2 → then ≤ last → 2 ^ (last - then) ≤ 2 * power_bound count
-    → 2 ^ (last - first) ≤ 8 * power_bound count
-two_first first then last count le few le' cost =
+-- four comparisons before halvings
+pub four_first : (first then last count : ℕ) → first ≤ then → then ≤ first + 4 → then ≤ last → 2 ^ (last - then) ≤ 2 * power_bound count
+    → 2 ^ (last - first) ≤ 32 * power_bound count
+four_first first then last count le few le' cost =
     let sum : last - first ≡ (then - first) + (last - then) = omega arith in
     let power = ap (λ k. 2 ^ k) sum ∙ pow-add 2 (then - first) (last - then) in
     let bound = mul-le-mul_left (2 ^ (then - first)) cost in
-    let most = mul-le-mul_right (2 * power_bound count) (pow_rises (then - first) 2 (omega arith)) in
+    let most = mul-le-mul_right (2 * power_bound count) (pow_rises (then - first) 4 (omega arith)) in
     omega (arith, power, bound, most)
 
 -- halving pages and then a page, where two neighbours have more than 64 items together
-pub both_halved : (first then last pages page items : ℕ) → first ≤ then → then ≤ last → 2 ^ (then - first) ≤ 8 * power_bound pages → 2 ^ (last - then) ≤ 2 * page + 1
+pub both_halved : (first then last pages page items : ℕ) → first ≤ then → then ≤ last → 2 ^ (then - first) ≤ 32 * power_bound pages → 2 ^ (last - then) ≤ 2 * page + 1
     → page ≤ 64 → page ≤ items → 65 * (pages / 2) ≤ items → 2 ^ (last - first) ≤ 256 * (2 * items + 1)
 both_halved first then last pages page items le le' one two small inside few =
     let sum : last - first ≡ (then - first) + (last - then) = omega arith in
@@ -156,12 +156,12 @@ both_halved first then last pages page items le le' one two small inside few =
       | inr single ↦ (
           let all = bound_of_one pages (omega arith) in
           let bound = mul-le-mul_left (2 ^ (then - first)) two in
-          let least = mul-le-mul_right (2 * page + 1) (let h : 2 ^ (then - first) ≤ 8 = omega (arith, one, all) in h) in
+          let least = mul-le-mul_right (2 * page + 1) (let h : 2 ^ (then - first) ≤ 32 = omega (arith, one, all) in h) in
           omega (arith, power, bound, least, inside))
     ]
 
 -- halving pages alone
-pub pages_halved : (first last pages items : ℕ) → 2 ^ (last - first) ≤ 8 * power_bound pages → pages ≤ items + 1 → 2 ^ (last - first) ≤ 256 * (2 * items + 1)
+pub pages_halved : (first last pages items : ℕ) → 2 ^ (last - first) ≤ 32 * power_bound pages → pages ≤ items + 1 → 2 ^ (last - first) ≤ 256 * (2 * items + 1)
 pages_halved first last pages items one few =
     let all = bound_within pages in
     omega (arith, one, few, all)

@@ -106,7 +106,7 @@ fn halve_often<K: Ord + Copy, V: Copy, L: Ledger>(
     halve(rows, key, side, steps, five_times)
 }
 
-/// Whether just so many rows stand before the place, and one at least: two comparisons say so.
+/// Whether just so many rows stand before the place: two comparisons say so.
 fn is_turn<K: Ord + Copy, V: Copy, L: Ledger>(
     rows: &[(K, V)],
     key: &K,
@@ -121,10 +121,10 @@ fn is_turn<K: Ord + Copy, V: Copy, L: Ledger>(
     ensures counted { steps.old ≤ steps.new }
     ensures few { steps.new ≤ steps.old + 2 }
 {
-    if count == 0 || rows.len() < count {
+    if rows.len() < count {
         return false;
     }
-    if !stands_before(&rows[count - 1].0, key, side, steps) {
+    if 0 < count && !stands_before(&rows[count - 1].0, key, side, steps) {
         return false;
     }
     if count == rows.len() {
@@ -133,7 +133,8 @@ fn is_turn<K: Ord + Copy, V: Copy, L: Ledger>(
     !stands_before(&rows[count].0, key, side, steps)
 }
 
-/// How many rows stand before the place. Whether it is so many as were near is asked first.
+/// How many rows stand before the place. Whether it is so many as were near is asked first, and then whether it is one less,
+/// as where keys fall.
 fn rows_before<K: Ord + Copy, V: Copy, L: Ledger>(
     rows: &[(K, V)],
     key: &K,
@@ -147,10 +148,14 @@ fn rows_before<K: Ord + Copy, V: Copy, L: Ledger>(
         (FailsAt (λ p. stands_before K.cmp side key.now p.0) rows.now)
         (length rows.now) result }
     ensures counted { steps.old ≤ steps.new }
-    ensures cost { 2 ^ (steps.new - steps.old) ≤ 8 * power_bound (length rows.now) }
+    ensures cost { 2 ^ (steps.new - steps.old) ≤ 32 * power_bound (length rows.now) }
 {
     if is_turn(rows, key, side, steps, near) {
         return near;
+    }
+    let less = near.saturating_sub(1);
+    if is_turn(rows, key, side, steps, less) {
+        return less;
     }
     rows_by_halving(rows, key, side, steps)
 }
@@ -201,7 +206,7 @@ fn pages_before<K: Ord + Copy, V: Copy, L: Ledger>(
         (λ i. FailsAt (λ p. stands_before K.cmp side key.now p.0) (page_of (pages_in spread.now) i) 0)
         (length (pages_in spread.now)) result }
     ensures counted { steps.old ≤ steps.new }
-    ensures cost { 2 ^ (steps.new - steps.old) ≤ 8 * power_bound (length (pages_in spread.now)) }
+    ensures cost { 2 ^ (steps.new - steps.old) ≤ 32 * power_bound (length (pages_in spread.now)) }
 {
     rows_before(spread.firsts(), key, side, steps, spread.near())
 }

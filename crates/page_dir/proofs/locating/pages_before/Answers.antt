@@ -11,7 +11,7 @@ returns-clause-turn g c =
 
 pub returns-clause-cost : goal.returns-clause-cost
 returns-clause-cost g c =
-    subst (λ n. 2 ^ (c.rows_before.new.steps - c.args.steps.now) ≤ 8 * power_bound n)
+    subst (λ n. 2 ^ (c.rows_before.new.steps - c.args.steps.now) ≤ 32 * power_bound n)
     (keys_of_pages c.firsts.result.now (pages_in c.args.spread.now) c.firsts.ensures) c.rows_before.ensures.cost
 
 pub rows_before-requires : goal.rows_before-requires
