@@ -6,7 +6,7 @@ ghost use Rattle.reg_entry.specs.declared.refusal.Refusal.TheVariants.{Malformed
 ghost use Rattle.reg_entry.specs.Days.{last_date};
 ghost use Rattle.reg_entry.specs.Holders.{handle_of};
 ghost use Rattle.reg_entry.specs.Register.{piece_of};
-ghost use Rattle.desk_text.specs.ReplyText.{reply_text};
+ghost use Rattle.desk_text.specs.ReplyText.{ReplyHasDate, reply_text};
 ghost use Rattle.registry_main.specs.Answer.{answer_text};
 ghost use Rattle.registry_main.specs.Session.{new_session, decided, after_reply, shown_text, step_of, answered};
 ghost use Rattle.delegated_ext.specs.StatisticsText.{statistics_text};
@@ -24,7 +24,7 @@ use num_range::Number;
 use piece_book::PieceBook;
 use policy_table::Policy;
 use reg_entry::{Handle, Name, Piece, Refusal, Reply, Request, Rooms, clamped_day};
-use request_core::decide;
+use request_core::{decide, decide_on_day, undated_refusal};
 use reverse_zone::{Apex, in_pool, write_zone};
 use std::alloc::{AllocError, Global};
 use std::marker::Model;
@@ -57,8 +57,9 @@ impl Model for Session {
     ghost view = { λ s. record { register = s.board.register; policy = s.policy; day = s.day; who = s.who } };
 }
 
-/// Tells of a line that isn't decided. It isn't inlined, since a function makes room for all its values when it is entered, and
-/// a reply has that of an entry.
+// A function makes room for all its values when it is entered, and a reply has that of an entry, so these two aren't inlined.
+
+/// Tells of a line that isn't decided.
 #[inline(never)]
 fn tell_malformed(place: u32, line: &mut AnswerLine)
     requires { line.old.items ≡ [] }
@@ -66,6 +67,17 @@ fn tell_malformed(place: u32, line: &mut AnswerLine)
     ensures short { array_vec_len line.new ≤ 140 }
 {
     write_reply(&Reply::Refused(Refusal::Malformed { place }), line);
+}
+
+/// Tells why a request is refused.
+#[inline(never)]
+fn tell_refused(refusal: Refusal, line: &mut AnswerLine)
+    requires empty { line.old.items ≡ [] }
+    requires date { ReplyHasDate (Refused refusal) }
+    ensures text { line.new.items ≡ reply_text (Refused refusal) }
+    ensures short { array_vec_len line.new ≤ 140 }
+{
+    write_reply(&Reply::Refused(refusal), line);
 }
 
 impl Session {
@@ -105,7 +117,11 @@ impl Session {
         self.board.is_whole();
         // A law, for the days that are written.
         replies_have_dates();
-        let reply = decide(&self.board, &self.policy, self.day, &self.who, request);
+        if let Some(refusal) = undated_refusal(&self.board, &self.policy, &self.who, request) {
+            tell_refused(refusal, line);
+            return;
+        }
+        let reply = decide_on_day(&self.board, &self.policy, self.day, &self.who, request);
         write_reply(&reply, line);
         if let Reply::Accepted(entry) = &reply {
             self.board.apply(entry);
