@@ -57,19 +57,8 @@ impl Model for Session {
     ghost view = { λ s. record { register = s.board.register; policy = s.policy; day = s.day; who = s.who } };
 }
 
-// A function makes room for all its values when it is entered, and a reply has that of an entry, so these two aren't inlined.
-
-/// Tells of a line that isn't decided.
-#[inline(never)]
-fn tell_malformed(place: u32, line: &mut AnswerLine)
-    requires { line.old.items ≡ [] }
-    ensures text { line.new.items ≡ reply_text (Refused (Malformed place)) }
-    ensures short { array_vec_len line.new ≤ 140 }
-{
-    write_reply(&Reply::Refused(Refusal::Malformed { place }), line);
-}
-
-/// Tells why a request is refused.
+/// Tells why a line is refused. It isn't inlined, since a function makes room for all its values when it is entered, and a
+/// reply has that of an entry.
 #[inline(never)]
 fn tell_refused(refusal: Refusal, line: &mut AnswerLine)
     requires empty { line.old.items ≡ [] }
@@ -199,7 +188,8 @@ impl Session {
         match &read_line(text) {
             Ok(asked) => self.follow(asked, line),
             Err(fault) => {
-                tell_malformed(fault.place, line);
+                let place = fault.place;
+                tell_refused(Refusal::Malformed { place }, line);
                 Answer::Told
             }
         }
