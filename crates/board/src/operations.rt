@@ -20,9 +20,7 @@ use holder_book::HolderBook;
 use num_range::Range;
 use op_feed::changes;
 use op_window::OpWindow;
-use reg_entry::{
-    Act, Entry, Handle, Holder, Object, Op, Piece, Request, Servers, SubCard, Touched,
-};
+use reg_entry::{Act, Entry, Handle, Holder, Op, Piece, Request, Servers, SubCard, Touched};
 use std::alloc::{AllocError, Global};
 use std::marker::Model;
 use sub_book::RangeBook;
@@ -66,22 +64,13 @@ impl Operations {
         self.window.at(place)
     }
 
-    /// Notes one operation more. Where there is no room for it the first one goes.
-    fn note(&mut self, act: Act, object: Object)
-        requires { self.old.serial + 1 < 2 ^ 64 }
-        ensures { self.new ≡ noted self.old (act, object) }
-    {
-        self.window.note(act, object);
-    }
-
     /// Notes that a holder has these fields.
     #[inline(never)]
     fn note_holder(&mut self, holder: &Holder, day: u32)
         requires { self.old.serial + 1 < 2 ^ 64 }
         ensures { self.new ≡ noted self.old (Add, Org holder.now day) }
     {
-        let holder = *holder;
-        self.note(Act::Add, Object::Org { holder, day });
+        self.window.note_org(Act::Add, holder, day);
     }
 
     /// Notes the cuts of a reverse entry.
@@ -90,8 +79,7 @@ impl Operations {
         ensures { self.new ≡ all_noted self.old (map (λ o. (act, o)) (cuts_of (range.now, servers.now))) }
     {
         for block in cuts(*range) {
-            let servers = *servers;
-            self.note(act, Object::Cut { block, servers });
+            self.window.note_cut(act, block, servers);
         }
     }
 
@@ -146,8 +134,7 @@ impl Operations {
     {
         if let Some(card) = sub {
             let (holder, _) = holders.holder(card.holder);
-            let (range, handle, day) = (*range, holder.handle, card.day);
-            self.note(Act::Del, Object::Sub { range, handle, day });
+            self.window.note_sub(Act::Del, *range, holder.handle, card.day);
         }
     }
 

@@ -18,8 +18,10 @@ pub enum Brief {
         handle: Handle,
         day: u32,
     },
-    /// Of the objects that stand apart the one of this number, counted from 0.
-    Apart(u64),
+    /// Of the holders that stand apart the one of this number, counted from 0.
+    Org(u64),
+    /// Of the cuts that stand apart the one of this number, counted from 0.
+    Cut(u64),
 }
 
 /// What is noted of an operation.

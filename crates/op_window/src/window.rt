@@ -1,27 +1,30 @@
 //! The last operations of the change stream.
-ghost use Rattle.std.specs.Prelude.{◌≡◌, ◌+◌, ◌-◌, ◌<◌, ◌≤◌, ◌^◌, [], length, slice_get, Some, IfOk};
-ghost use Rattle.reg_entry.specs.declared.object.Object.TheVariants.{Block, Sub};
+ghost use Rattle.std.specs.Prelude.{◌≡◌, ◌+◌, ◌-◌, ◌<◌, ◌≤◌, ◌^◌, [], length, slice_get, IfOk};
+ghost use Rattle.reg_entry.specs.declared.object.Object.TheVariants.{Org, Block, Sub, Cut};
 ghost use Rattle.op_window.specs.Briefs.{IsAmong, object_of};
 ghost use Rattle.op_window.specs.Window.{noted};
 
 use circular_buffer::HeapCircularBuffer;
 use num_range::Range;
 use op_feed::{Brief, Noted};
-use reg_entry::{Act, Card, Handle, Object, Op, Piece};
+use reg_entry::{Act, Handle, Holder, Object, Op, Piece, Servers};
 use std::alloc::{AllocError, Global};
 use std::marker::Model;
 
 /// The last operations, and how many there were in all. Making one takes memory, and nothing after that does.
 ///
 /// Blocks and subs are small beside a holder's fields and the servers of a cut, and most operations are of them. So what is
-/// large stands apart, and an operation that is small moves no more than it has.
+/// large stands apart, holders and cuts each for themselves, and an operation moves no more than it has.
 #[derive(Drop)]
 pub struct OpWindow {
     serial: u64,
     noted: HeapCircularBuffer<Noted>,
-    // The last of the objects that stand apart, and how many there were in all.
-    apart: HeapCircularBuffer<Object>,
-    apart_count: u64,
+    // The last of the holders that stand apart, each with its day, and how many there were in all.
+    orgs: HeapCircularBuffer<(Holder, u32)>,
+    org_count: u64,
+    // The last of the cuts, each with its servers, and how many there were in all.
+    cuts: HeapCircularBuffer<(Range, Servers)>,
+    cut_count: u64,
 }
 
 impl Model for OpWindow {
@@ -30,9 +33,14 @@ impl Model for OpWindow {
 
     ghost Value = { PlainOperations };
 
-    ghost view = { λ w. record { serial = w.serial; kept = kept_of w.serial w.noted.items w.apart_count w.apart.items; window = w.noted.capacity } };
+    ghost view = { λ w. record {
+      serial = w.serial;
+      kept = kept_of w.serial w.noted.items w.org_count w.orgs.items w.cut_count w.cuts.items;
+      window = w.noted.capacity;
+    } };
 
-    ghost invariant = { λ w. IsWindow w.serial w.noted.items w.noted.capacity w.apart_count w.apart.items w.apart.capacity };
+    ghost invariant = { λ w. IsWindow w.serial w.noted.items w.noted.capacity
+        w.org_count w.orgs.items w.orgs.capacity w.cut_count w.cuts.items w.cuts.capacity };
 }
 
 impl OpWindow {
@@ -43,8 +51,10 @@ impl OpWindow {
         Ok(OpWindow {
             serial: 0,
             noted: HeapCircularBuffer::with_capacity(alloc, window as usize)?,
-            apart: HeapCircularBuffer::with_capacity(alloc, window as usize)?,
-            apart_count: 0,
+            orgs: HeapCircularBuffer::with_capacity(alloc, window as usize)?,
+            org_count: 0,
+            cuts: HeapCircularBuffer::with_capacity(alloc, window as usize)?,
+            cut_count: 0,
         })
     }
 
@@ -65,17 +75,27 @@ impl OpWindow {
         Some(Op {
             serial: self.serial - (self.noted.len() as u64 - place - 1),
             act: noted.act,
-            object: object_of(&self.apart, self.apart_count, &noted.brief),
+            object: object_of(
+                &self.orgs,
+                self.org_count,
+                &self.cuts,
+                self.cut_count,
+                &noted.brief,
+            ),
         })
     }
 
-    /// Notes one operation more, of a sub. Where there is no room for it the first one goes.
-    pub fn note_sub(&mut self, act: Act, range: Range, handle: Handle, day: u32)
+    /// Notes one operation more, of a holder. Where there is no room for it the first one goes.
+    pub fn note_org(&mut self, act: Act, holder: &Holder, day: u32)
         requires { self.old.serial + 1 < 2 ^ 64 }
-        ensures { self.new ≡ noted self.old (act, Sub range handle day) }
+        ensures { self.new ≡ noted self.old (act, Org holder.now day) }
     {
-        let brief = Brief::Sub { range, handle, day };
+        // A note may hold a handle, of which the prover has to be told here.
+        let _nobody: Option<Handle> = None;
+        let brief = Brief::Org(self.org_count);
         self.serial += 1;
+        self.org_count += 1;
+        self.orgs.push_back((*holder, day));
         self.noted.push_back(Noted { act, brief });
     }
 
@@ -96,44 +116,43 @@ impl OpWindow {
         self.noted.push_back(Noted { act, brief });
     }
 
-    /// Notes one operation more. Where there is no room for it the first one goes.
-    pub fn note(&mut self, act: Act, object: Object)
+    /// Notes one operation more, of a sub. Where there is no room for it the first one goes.
+    pub fn note_sub(&mut self, act: Act, range: Range, handle: Handle, day: u32)
         requires { self.old.serial + 1 < 2 ^ 64 }
-        ensures { self.new ≡ noted self.old (act, object) }
+        ensures { self.new ≡ noted self.old (act, Sub range handle day) }
     {
-        match object {
-            Object::Block {
-                range,
-                status,
-                handle,
-                day,
-                until,
-            } => {
-                let card = Card {
-                    status,
-                    holder: None,
-                    day,
-                    until,
-                };
-                self.note_block(act, &Piece { range, card }, handle);
-            }
-            Object::Sub { range, handle, day } => self.note_sub(act, range, handle, day),
-            Object::Org { .. } | Object::Cut { .. } => {
-                let brief = Brief::Apart(self.apart_count);
-                self.serial += 1;
-                self.apart_count += 1;
-                self.apart.push_back(object);
-                self.noted.push_back(Noted { act, brief });
-            }
-        }
+        let brief = Brief::Sub { range, handle, day };
+        self.serial += 1;
+        self.noted.push_back(Noted { act, brief });
+    }
+
+    /// Notes one operation more, of a cut. Where there is no room for it the first one goes.
+    pub fn note_cut(&mut self, act: Act, block: Range, servers: &Servers)
+        requires { self.old.serial + 1 < 2 ^ 64 }
+        ensures { self.new ≡ noted self.old (act, Cut block servers.now) }
+    {
+        // As above.
+        let _nobody: Option<Handle> = None;
+        let brief = Brief::Cut(self.cut_count);
+        self.serial += 1;
+        self.cut_count += 1;
+        self.cuts.push_back((block, *servers));
+        self.noted.push_back(Noted { act, brief });
     }
 }
 
-/// The object of which this is noted, where these are the last of those that stand apart, so many in all.
-fn object_of(apart: &HeapCircularBuffer<Object>, count: u64, brief: &Brief) -> Object
-    requires held { length apart.now.items ≤ count }
-    requires among { IsAmong (count - length apart.now.items) count brief.now }
-    ensures { result ≡ object_of (count - length apart.now.items) apart.now.items brief.now }
+/// The object of which this is noted, where these are the last of the holders and of the cuts that stand apart, so many in all.
+fn object_of(
+    orgs: &HeapCircularBuffer<(Holder, u32)>,
+    org_count: u64,
+    cuts: &HeapCircularBuffer<(Range, Servers)>,
+    cut_count: u64,
+    brief: &Brief,
+) -> Object
+    requires orgs { length orgs.now.items ≤ org_count }
+    requires cuts { length cuts.now.items ≤ cut_count }
+    requires among { IsAmong (org_count - length orgs.now.items) org_count (cut_count - length cuts.now.items) cut_count brief.now }
+    ensures { result ≡ object_of (org_count - length orgs.now.items) orgs.now.items (cut_count - length cuts.now.items) cuts.now.items brief.now }
 {
     match brief {
         Brief::Block {
@@ -154,10 +173,23 @@ fn object_of(apart: &HeapCircularBuffer<Object>, count: u64, brief: &Brief) -> O
             handle: *handle,
             day: *day,
         },
-        Brief::Apart(number) => {
-            let first = count - apart.len() as u64;
-            match apart.get((*number - first) as usize) {
-                Some(object) => *object,
+        Brief::Org(number) => {
+            let first = org_count - orgs.len() as u64;
+            match orgs.get((*number - first) as usize) {
+                Some((holder, day)) => Object::Org {
+                    holder: *holder,
+                    day: *day,
+                },
+                None => unreachable!(),
+            }
+        }
+        Brief::Cut(number) => {
+            let first = cut_count - cuts.len() as u64;
+            match cuts.get((*number - first) as usize) {
+                Some((block, servers)) => Object::Cut {
+                    block: *block,
+                    servers: *servers,
+                },
                 None => unreachable!(),
             }
         }
