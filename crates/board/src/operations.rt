@@ -134,7 +134,8 @@ impl Operations {
     {
         if let Some(card) = sub {
             let (holder, _) = holders.holder(card.holder);
-            self.window.note_sub(Act::Del, *range, holder.handle, card.day);
+            self.window
+                .note_sub(Act::Del, *range, holder.handle, card.day);
         }
     }
 

@@ -9,7 +9,6 @@ ghost use Rattle.page_dir.specs.Splices.{spliced};
 use super::*;
 use std::alloc::{AllocError, Global};
 use std::marker::{Brand, Model};
-use std::process::Abort;
 use std::sync::ledger::{Blank, Ledger};
 use std::test::Fail;
 
@@ -221,31 +220,45 @@ fn splice_both<K: Key>(
     Ok(dir.splice(&K::of(from), n as u32, &keyed) == did)
 }
 
-fn drive<K: Key>(rt: &impl Abort, alloc: Global, splices: u32) -> Result<(), AllocError> {
-    let mut dir = Listed {
-        dir: PageDir::<K, u64>::with_room(alloc, 3_000)?,
-    };
-    let mut plain = Vec::new(alloc);
+/// Splices both lists, and compares them after each hundred.
+fn drive_both<K: Key>(
+    alloc: Global,
+    dir: &mut Listed<K, u64>,
+    plain: &mut Vec<(u64, u64)>,
+    splices: u32,
+) -> Result<bool, AllocError> {
     let mut numbers = Numbers {
         state: 88_172_645_463_325_252,
     };
     for i in 0..splices {
-        assert!(rt; splice_both(alloc, &mut dir, &mut plain, &mut numbers)?);
+        if !splice_both(alloc, dir, plain, &mut numbers)? {
+            return Ok(false);
+        }
         if i % 100 == 99 {
-            assert!(rt; agrees(&dir.dir, &plain));
-            assert!(rt; finds_alike(&dir.dir, &plain, numbers.below(1_000_000)));
+            let number = numbers.below(1_000_000);
             let (from, until) = (numbers.below(1_000_000), numbers.below(1_000_000));
-            assert!(rt; counts_alike(&dir.dir, &plain, from, until));
+            let alike = agrees(&dir.dir, plain) && finds_alike(&dir.dir, plain, number);
+            if !alike || !counts_alike(&dir.dir, plain, from, until) {
+                return Ok(false);
+            }
         }
     }
-    Ok(())
+    Ok(true)
+}
+
+fn drive<K: Key>(alloc: Global, splices: u32) -> Result<bool, AllocError> {
+    let mut plain = Vec::new(alloc);
+    let mut dir = Listed {
+        dir: PageDir::<K, u64>::with_room(alloc, 3_000)?,
+    };
+    drive_both(alloc, &mut dir, &mut plain, splices)
 }
 
 #[test]
 fn random_splices(rt: HostRuntime) -> Result<(), Fail> {
-    drive::<u128>(&rt, rt.alloc(), 20_000)?;
-    drive::<(u64, u8)>(&rt, rt.alloc(), 2_000)?;
-    drive::<[u8; 8]>(&rt, rt.alloc(), 2_000)?;
+    assert!(rt; drive::<u128>(rt.alloc(), 20_000)?);
+    assert!(rt; drive::<(u64, u8)>(rt.alloc(), 2_000)?);
+    assert!(rt; drive::<[u8; 8]>(rt.alloc(), 2_000)?);
     Ok(())
 }
 
@@ -277,23 +290,59 @@ const SPLICES: &str = "\
 7 1 0 yes 0 0
 ";
 
-/// One row of the splices: whether it went as it says.
-fn goes_as_told(alloc: Global, dir: &mut Listed<u128, u64>, row: &str) -> Result<bool, Fail> {
-    let mut words = row.split_whitespace();
+/// One row of the splices.
+struct Row {
+    from: u64,
+    n: u32,
+    come: u64,
+    fits: bool,
+    pages: Option<usize>,
+    len: u32,
+}
+
+fn row_of(text: &str) -> Result<Row, Fail> {
+    let mut words = text.split_whitespace();
     let mut next = || words.next().ok_or("a word too few");
-    let from: u64 = next()?.parse()?;
-    let n: u32 = next()?.parse()?;
-    let come: u64 = next()?.parse()?;
-    let fits = next()? == "yes";
-    let pages = next()?;
-    let len: u32 = next()?.parse()?;
-    let mut new = Vec::new(alloc);
-    for i in 0..come {
-        new.push((u128::from(from) + u128::from(i), i))?;
+    Ok(Row {
+        from: next()?.parse()?,
+        n: next()?.parse()?,
+        come: next()?.parse()?,
+        fits: next()? == "yes",
+        pages: next()?.parse().ok(),
+        len: next()?.parse()?,
+    })
+}
+
+/// So many pairs with the numbers from there on.
+fn pairs_from(alloc: Global, from: u64, count: u64) -> Result<Vec<(u128, u64)>, AllocError> {
+    let mut pairs = Vec::new(alloc);
+    for i in 0..count {
+        pairs.push((u128::from(from) + u128::from(i), i))?;
     }
-    let did = dir.splice(&u128::from(from), n, &new);
-    let right_pages = pages == "-" || pages.parse::<usize>()? == dir.dir.order().len();
-    Ok(did == fits && right_pages && dir.dir.len() == len)
+    Ok(pairs)
+}
+
+/// Whether it went as the row says.
+fn goes_as_told(alloc: Global, dir: &mut Listed<u128, u64>, row: &Row) -> Result<bool, AllocError> {
+    let new = pairs_from(alloc, row.from, row.come)?;
+    let fits = dir.splice(&u128::from(row.from), row.n, &new);
+    let pages = dir.dir.order().len();
+    Ok(fits == row.fits && row.pages.unwrap_or(pages) == pages && dir.dir.len() == row.len)
+}
+
+/// All rows, and then the directory is empty.
+fn go_as_told(alloc: Global, dir: &mut Listed<u128, u64>) -> Result<(), Fail> {
+    for text in SPLICES.lines() {
+        if !goes_as_told(alloc, dir, &row_of(text)?)? {
+            return Err(text.into());
+        }
+    }
+    // Seven pages are enough for 200 pairs, and two are spare.
+    if dir.dir.room() == 200 && dir.dir.is_empty() && dir.dir.pages().spare() == 9 {
+        Ok(())
+    } else {
+        Err("the directory isn't as it was made".into())
+    }
 }
 
 #[test]
@@ -301,14 +350,7 @@ fn splices_at_the_ends(rt: HostRuntime) -> Result<(), Fail> {
     let mut dir = Listed {
         dir: PageDir::with_room(rt.alloc(), 200)?,
     };
-    for row in SPLICES.lines() {
-        assert!(rt; goes_as_told(rt.alloc(), &mut dir, row)?, "{row}");
-    }
-    assert_eq!(rt; dir.dir.room(), 200);
-    assert!(rt; dir.dir.is_empty());
-    // Seven pages are enough for 200 pairs, and two are spare.
-    assert_eq!(rt; dir.dir.pages().spare(), 9);
-    Ok(())
+    go_as_told(rt.alloc(), &mut dir)
 }
 
 /// A number that is seen as itself, as the types of the layers above are.
@@ -333,26 +375,38 @@ struct Part {
     mark: Mark,
 }
 
-#[test]
-fn holds_structs(rt: HostRuntime) -> Result<(), Fail> {
-    let mut dir = Listed {
-        dir: PageDir::<u128, Part>::with_room(rt.alloc(), 70)?,
-    };
+fn part_until(last: u128) -> Part {
+    Part {
+        last,
+        mark: Mark { code: 7 },
+    }
+}
+
+/// Seventy pairs come one by one, and all go but the first ten and the last.
+fn keeps_structs(dir: &mut Listed<u128, Part>) -> bool {
     for number in 0..70u64 {
         let first = u128::from(number);
-        let part = Part {
-            last: first + 5,
-            mark: Mark { code: 7 },
-        };
-        assert!(rt; dir.splice(&first, 0, &[(first, part)]));
+        if !dir.splice(&first, 0, &[(first, part_until(first + 5))]) {
+            return false;
+        }
     }
-    assert!(rt; dir.splice(&10, 59, &[]));
-    let last = Part {
-        last: 74,
-        mark: Mark { code: 7 },
+    let last = Some((69, part_until(74)));
+    dir.splice(&10, 59, &[])
+        && dir.dir.from(&10) == last
+        && dir.dir.walk_from(&10).next() == last
+        && dir.dir.order().len() == 1
+}
+
+/// Whether a directory keeps structs.
+fn holds(alloc: Global) -> Result<bool, AllocError> {
+    let mut dir = Listed {
+        dir: PageDir::<u128, Part>::with_room(alloc, 70)?,
     };
-    assert_eq!(rt; dir.dir.from(&10), Some((69, last)));
-    assert_eq!(rt; dir.dir.walk_from(&10).next(), Some((69, last)));
-    assert_eq!(rt; dir.dir.order().len(), 1);
+    Ok(keeps_structs(&mut dir))
+}
+
+#[test]
+fn holds_structs(rt: HostRuntime) -> Result<(), Fail> {
+    assert!(rt; holds(rt.alloc())?);
     Ok(())
 }

@@ -2,10 +2,11 @@ ghost use Rattle.std.specs.Prelude.{◌≡◌};
 ghost use Rattle.policy_table.specs.declared.fault.PolicyFault.TheVariants.{NoMemory};
 
 use std::alloc::{AllocError, AllocFailed};
+use std::fmt;
 use thiserror::Error;
 
 /// Why there is no policy. The number is that of the first of the file's 39 keys that has a fault.
-#[derive(Clone, Copy, Debug, PartialEq, Eq, Error)]
+#[derive(Clone, Copy, PartialEq, Eq, Error)]
 pub enum PolicyFault {
     /// The file has more than 65,536 bytes.
     #[error("the policy has more than 65536 bytes")]
@@ -24,6 +25,13 @@ pub enum PolicyFault {
     Bounds(u8),
     #[error("no memory")]
     NoMemory,
+}
+
+/// As it is shown to a person.
+impl fmt::Debug for PolicyFault {
+    fn fmt(&self, f: &mut fmt::Formatter<'_>) -> fmt::Result {
+        fmt::Display::fmt(self, f)
+    }
 }
 
 impl From<AllocError> for PolicyFault {

@@ -72,9 +72,15 @@ const KEYS: [(&str, &str, &str); 39] = [
     ("", "kinds", r#"["lir", "enduser"]"#),
 ];
 
-/// The policy with another value of the key of this number, or without it.
-fn changed(alloc: Global, key: u8, value: Option<&str>) -> Result<String, AllocError> {
-    let mut text = String::new(alloc);
+fn append_line(name: &str, value: &str, text: &mut String) -> Result<(), AllocError> {
+    text.push_str(name)?;
+    text.push_str(" = ")?;
+    text.push_str(value)?;
+    text.push_str("\n")
+}
+
+/// The policy with another value of the key of this number, or without it, behind what is there.
+fn append_changed(key: u8, value: Option<&str>, text: &mut String) -> Result<(), AllocError> {
     for (place, (before, name, old)) in KEYS.iter().enumerate() {
         text.push_str(before)?;
         let value = if place + 1 == key as usize {
@@ -83,12 +89,15 @@ fn changed(alloc: Global, key: u8, value: Option<&str>) -> Result<String, AllocE
             Some(*old)
         };
         if let Some(value) = value {
-            text.push_str(name)?;
-            text.push_str(" = ")?;
-            text.push_str(value)?;
-            text.push_str("\n")?;
+            append_line(name, value, text)?;
         }
     }
+    Ok(())
+}
+
+fn changed(alloc: Global, key: u8, value: Option<&str>) -> Result<String, AllocError> {
+    let mut text = String::new(alloc);
+    append_changed(key, value, &mut text)?;
     Ok(text)
 }
 
@@ -363,22 +372,39 @@ fn tables(rt: HostRuntime) -> Result<(), Fail> {
     Ok(())
 }
 
+/// A policy of 65,536 bytes, which are as many as there may be.
+fn longest(alloc: Global) -> Result<String, AllocError> {
+    let mut text = String::from_str(alloc, POLICY)?;
+    text.push_str("#")?;
+    let rest = 65_536usize.saturating_sub(text.len());
+    text.push_str(&"x".repeat(alloc, rest)?)?;
+    Ok(text)
+}
+
+/// The faults of a policy of 65,536 bytes, and of one with one byte more.
+fn faults_at_length(
+    alloc: Global,
+    text: &mut String,
+) -> Result<[Option<PolicyFault>; 2], AllocError> {
+    let longest = fault(alloc, text);
+    text.push_str("x")?;
+    Ok([longest, fault(alloc, text)])
+}
+
+const BROKEN: [&str; 4] = [
+    "registry",
+    "registry = \"a\"\nregistry = \"b\"\n",
+    "= 1",
+    "[zone",
+];
+
 #[test]
 fn bytes_of_files(rt: HostRuntime) -> Result<(), Fail> {
     let alloc = rt.alloc();
-    let mut text = String::from_str(alloc, POLICY)?;
-    text.push_str("#")?;
-    text.push_str(&"x".repeat(alloc, 65_536usize.saturating_sub(text.len()))?)?;
-    assert_eq!(rt; text.len(), 65_536);
-    assert_eq!(rt; fault(alloc, &text), None);
-    text.push_str("x")?;
-    assert_eq!(rt; fault(alloc, &text), Some(PolicyFault::TooLong));
-    for broken in [
-        "registry",
-        "registry = \"a\"\nregistry = \"b\"\n",
-        "= 1",
-        "[zone",
-    ] {
+    let mut text = longest(alloc)?;
+    let faults = faults_at_length(alloc, &mut text)?;
+    assert_eq!(rt; faults, [None, Some(PolicyFault::TooLong)]);
+    for broken in BROKEN.iter() {
         assert_eq!(rt; fault(alloc, broken), Some(PolicyFault::Text), "{broken}");
     }
     let not_utf8 = Policy::read(alloc, b"registry = \"\xff\"").err();
@@ -386,15 +412,26 @@ fn bytes_of_files(rt: HostRuntime) -> Result<(), Fail> {
     Ok(())
 }
 
-/// A table of so many hostmasters.
-fn table_of(alloc: Global, count: u32) -> Result<String, Fail> {
-    let mut table = String::from_str(alloc, "{ ")?;
+fn append_hostmaster(alloc: Global, n: u32, table: &mut String) -> Result<(), Fail> {
+    let comma = if n == 0 { "" } else { ", " };
+    let one = format!(in alloc; "{comma}h{n} = \"token-of-{n}\"")?;
+    table.push_str(&one)?;
+    Ok(())
+}
+
+/// A table of so many hostmasters, behind what is there.
+fn append_hostmasters(alloc: Global, count: u32, table: &mut String) -> Result<(), Fail> {
+    table.push_str("{ ")?;
     for n in 0..count {
-        let comma = if n == 0 { "" } else { ", " };
-        let one = format!(in alloc; "{comma}h{n} = \"token-of-{n}\"")?;
-        table.push_str(&one)?;
+        append_hostmaster(alloc, n, table)?;
     }
     table.push_str(" }")?;
+    Ok(())
+}
+
+fn table_of(alloc: Global, count: u32) -> Result<String, Fail> {
+    let mut table = String::new(alloc);
+    append_hostmasters(alloc, count, &mut table)?;
     Ok(table)
 }
 
