@@ -2,11 +2,12 @@ ghost use Rattle.std.specs.Prelude.{◌≡◌};
 ghost use Rattle.mirror_core.specs.declared.fault.FeedFault.TheVariants.{NoMemory as TheNoMemory};
 
 use std::alloc::AllocError;
+use std::fmt;
 use thiserror::Error;
 
 /// Why a mirror takes nothing more. A place is the offset of a line's first byte in all that was fed, from 0; from 2^64 - 1 on
 /// places aren't told apart.
-#[derive(Clone, Copy, Debug, PartialEq, Eq, Error)]
+#[derive(Clone, Copy, PartialEq, Eq, Error)]
 pub enum FeedFault {
     /// A line that can't stand where it stands.
     #[error("Spelling")]
@@ -25,6 +26,13 @@ pub enum FeedFault {
     Announced { place: u64 },
     #[error("NoMemory")]
     NoMemory,
+}
+
+/// As it is shown to a person.
+impl fmt::Debug for FeedFault {
+    fn fmt<W: fmt::Write>(&self, f: &mut fmt::Formatter<W>) -> fmt::Result {
+        fmt::Display::fmt(self, f)
+    }
 }
 
 impl From<AllocError> for FeedFault {

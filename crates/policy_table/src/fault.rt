@@ -29,7 +29,7 @@ pub enum PolicyFault {
 
 /// As it is shown to a person.
 impl fmt::Debug for PolicyFault {
-    fn fmt(&self, f: &mut fmt::Formatter<'_>) -> fmt::Result {
+    fn fmt<W: fmt::Write>(&self, f: &mut fmt::Formatter<W>) -> fmt::Result {
         fmt::Display::fmt(self, f)
     }
 }

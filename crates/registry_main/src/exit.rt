@@ -7,7 +7,7 @@ use policy_table::PolicyFault;
 use std::fmt;
 
 /// The end of a run.
-#[derive(Clone, Copy, Debug, PartialEq, Eq)]
+#[derive(Clone, Copy, PartialEq, Eq)]
 pub enum Exit {
     /// All was done.
     Done,
@@ -77,5 +77,12 @@ impl fmt::Display for Exit {
             Exit::FeedRefused(FeedFault::Announced { .. }) => f.write_str("feed: Announced"),
             Exit::FeedRefused(FeedFault::NoMemory) => f.write_str("feed: NoMemory"),
         }
+    }
+}
+
+/// As it is shown to a person.
+impl fmt::Debug for Exit {
+    fn fmt<W: fmt::Write>(&self, f: &mut fmt::Formatter<W>) -> fmt::Result {
+        fmt::Display::fmt(self, f)
     }
 }
