@@ -9,7 +9,7 @@ ghost use Rattle.std.specs.Option.{option_map_or};
 ghost use Rattle.reg_entry.specs.Holders.{handle_of, has_handle};
 ghost use Rattle.reg_entry.specs.Objects.{block_of_piece, blocks_of, sub_of, cuts_of};
 ghost use Rattle.reg_entry.specs.declared.object.Act.TheVariants.{Add};
-ghost use Rattle.reg_entry.specs.declared.object.Object.TheVariants.{Org};
+ghost use Rattle.reg_entry.specs.declared.object.Object.TheVariants.{Org, Cut};
 ghost use Rattle.reg_entry.specs.Ranges.{ranges_inside, value_of_range};
 ghost use Rattle.op_feed.specs.PieceChanges.{pieces_gone, pieces_come, piece_changes};
 ghost use Rattle.op_feed.specs.EntryChanges.{dels, adds, edit_changes, server_changes, entry_changes};
@@ -73,13 +73,21 @@ impl Operations {
         self.window.note_org(Act::Add, holder, day);
     }
 
+    /// Notes a cut with its servers.
+    fn note_cut(&mut self, act: Act, block: Range, servers: &Servers)
+        requires { self.old.serial + 1 < 2 ^ 64 }
+        ensures { self.new ≡ noted self.old (act, Cut block servers.now) }
+    {
+        self.window.note_cut(act, block, servers);
+    }
+
     /// Notes the cuts of a reverse entry.
     fn note_cuts(&mut self, act: Act, range: &Range, servers: &Servers)
         requires { self.old.serial + length (cuts_of (range.now, servers.now)) < 2 ^ 64 }
         ensures { self.new ≡ all_noted self.old (map (λ o. (act, o)) (cuts_of (range.now, servers.now))) }
     {
         for block in cuts(*range) {
-            self.window.note_cut(act, block, servers);
+            self.note_cut(act, block, servers);
         }
     }
 

@@ -291,6 +291,7 @@ const SPLICES: &str = "\
 ";
 
 /// One row of the splices.
+#[derive(Drop)]
 struct Row {
     from: u64,
     n: u32,
