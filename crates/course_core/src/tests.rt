@@ -155,6 +155,7 @@ fn answers_all(course: &mut Course, events: &[(Event, Answer)]) -> bool {
 }
 
 fn lives(course: &mut Course) -> Option<bool> {
+    course.reserve(7).ok()?;
     Some(answers_all(course, &first_events()?) && answers_all(course, &last_events()?))
 }
 
@@ -165,7 +166,6 @@ fn holds(rt: &HostRuntime, rooms: Rooms) -> Result<bool, Fail>
 {
     let policy = Policy::read(rt.alloc(), POLICY.as_bytes())?;
     let mut course = Course::new(rt.alloc(), rooms, policy, 2, 1)?;
-    course.reserve(7)?;
     Ok(lives(&mut course) == Some(true))
 }
 
