@@ -1,6 +1,6 @@
 use crate::HolderBook;
 use reg_entry::{Cc, Handle, Holder, Kind, Text};
-use std::alloc::AllocError;
+use std::alloc::{AllocError, Global};
 use std::test::Fail;
 
 fn holder(handle: &[u8], name: &[u8]) -> Option<Holder> {
@@ -43,42 +43,79 @@ fn stands(book: &HolderBook, number: u32, handle: &[u8], name: &[u8], day: u32) 
     holder.handle.bytes() == handle && holder.name.bytes() == name && *given == day
 }
 
+/// Handles with their days, and the numbers that they get: those are in the order in which they came, whatever the order of
+/// the handles.
+const ROWS: [(&str, u32, u32); 3] = [
+    ("ORG-B", 19783, 0),
+    ("ORG-C", 19784, 1),
+    ("ORG-A", 19785, 2),
+];
+
+/// Below, between and above those that are there.
+const UNKNOWN: [&str; 4] = ["ORG", "ORG-AA", "ORG-BZ", "ORG-D"];
+
+/// Each comes once.
+fn all_come(book: &mut HolderBook) -> bool {
+    for (handle, day, expected) in ROWS.iter() {
+        let handle = handle.as_bytes();
+        let came = book.len() == *expected && added(book, handle, *day) == Some(*expected);
+        if !came || added(book, handle, *day).is_some() {
+            return false;
+        }
+    }
+    true
+}
+
+fn all_are_found(book: &HolderBook) -> bool {
+    for (handle, day, expected) in ROWS.iter() {
+        let handle = handle.as_bytes();
+        let found = number(book, handle) == Some(*expected);
+        if !found || !stands(book, *expected, handle, b"First Name", *day) {
+            return false;
+        }
+    }
+    true
+}
+
+fn no_others_are_found(book: &HolderBook) -> bool {
+    for handle in UNKNOWN.iter() {
+        if number(book, handle.as_bytes()).is_some() {
+            return false;
+        }
+    }
+    true
+}
+
+fn one_is_edited(book: &mut HolderBook) -> bool {
+    edited(book, b"ORG-C", b"Second Name", 19790) == Some(1)
+        && edited(book, b"ORG-D", b"Second Name", 19790).is_none()
+        && stands(book, 0, b"ORG-B", b"First Name", 19783)
+        && stands(book, 1, b"ORG-C", b"Second Name", 19790)
+        && stands(book, 2, b"ORG-A", b"First Name", 19785)
+        && number(book, b"ORG-C") == Some(1)
+}
+
+/// Whether a book with room for three has each of three holders, and no more than there is room for.
+fn has_each(book: &mut HolderBook) -> bool {
+    number(book, b"ORG-B").is_none()
+        && all_come(book)
+        && all_are_found(book)
+        && no_others_are_found(book)
+        && added(book, b"ORG-D", 19786).is_none()
+        && (book.len(), book.room()) == (3, 3)
+        && one_is_edited(book)
+}
+
+/// No function of the tests that owns a book has more than one end behind it, since each end proves again that all of it is
+/// dropped.
+fn new_book_has_each(alloc: Global) -> Result<bool, AllocError> {
+    let mut book = HolderBook::with_room(alloc, 3)?;
+    Ok(has_each(&mut book))
+}
+
 #[test]
 fn holders_are_found_by_handle_and_by_number(rt: HostRuntime) -> Result<(), Fail> {
-    let mut book = HolderBook::with_room(rt.alloc(), 3)?;
-    assert_eq!(rt; number(&book, b"ORG-B"), None);
-
-    // The numbers are in the order in which they came, whatever the order of the handles.
-    let rows: [(&[u8], u32, u32); 3] = [
-        (b"ORG-B", 19783, 0),
-        (b"ORG-C", 19784, 1),
-        (b"ORG-A", 19785, 2),
-    ];
-    for (handle, day, expected) in rows {
-        assert_eq!(rt; book.len(), expected);
-        assert_eq!(rt; added(&mut book, handle, day), Some(expected));
-        assert_eq!(rt; added(&mut book, handle, day), None);
-    }
-    for (handle, day, expected) in rows {
-        assert_eq!(rt; number(&book, handle), Some(expected));
-        assert!(rt; stands(&book, expected, handle, b"First Name", day));
-    }
-    // Below, between and above those that are there.
-    let unknown: [&[u8]; 4] = [b"ORG", b"ORG-AA", b"ORG-BZ", b"ORG-D"];
-    for handle in unknown {
-        assert_eq!(rt; number(&book, handle), None);
-    }
-
-    // No more than there is room for.
-    assert_eq!(rt; added(&mut book, b"ORG-D", 19786), None);
-    assert_eq!(rt; (book.len(), book.room()), (3, 3));
-
-    assert_eq!(rt; edited(&mut book, b"ORG-C", b"Second Name", 19790), Some(1));
-    assert_eq!(rt; edited(&mut book, b"ORG-D", b"Second Name", 19790), None);
-    assert!(rt; stands(&book, 0, b"ORG-B", b"First Name", 19783));
-    assert!(rt; stands(&book, 1, b"ORG-C", b"Second Name", 19790));
-    assert!(rt; stands(&book, 2, b"ORG-A", b"First Name", 19785));
-    assert_eq!(rt; number(&book, b"ORG-C"), Some(1));
+    assert!(rt; new_book_has_each(rt.alloc())?);
     Ok(())
 }
 
@@ -144,22 +181,37 @@ fn has(book: &HolderBook, number: u32, held: &(Holder, u32)) -> bool {
     number < book.len() && book.holder(number) == held
 }
 
-#[test]
-fn the_plain_book_says_the_same(rt: HostRuntime) -> Result<(), Fail> {
-    let mut book = HolderBook::with_room(rt.alloc(), 300)?;
-    let mut plain = PlainBook {
-        holders: Vec::new(rt.alloc()),
-        index: Vec::new(rt.alloc()),
-    };
+/// Whether both books say the same after 2,000 steps.
+fn say_the_same(book: &mut HolderBook, plain: &mut PlainBook) -> Result<bool, AllocError> {
     let mut random = 1u32;
     for day in 0..2000 {
         random = random.wrapping_mul(1664525).wrapping_add(1013904223);
-        let holder = drawn(random).ok_or("no holder")?;
-        assert!(rt; step(&mut book, &mut plain, &holder, day)?);
+        let Some(holder) = drawn(random) else {
+            return Ok(false);
+        };
+        if !step(book, plain, &holder, day)? {
+            return Ok(false);
+        }
     }
-    assert_eq!(rt; book.len(), 300);
     for (number, held) in (0..book.len()).zip(&plain.holders) {
-        assert!(rt; has(&book, number, held));
+        if !has(book, number, held) {
+            return Ok(false);
+        }
     }
+    Ok(book.len() == 300)
+}
+
+fn new_books_say_the_same(alloc: Global) -> Result<bool, AllocError> {
+    let mut plain = PlainBook {
+        holders: Vec::new(alloc),
+        index: Vec::new(alloc),
+    };
+    let mut book = HolderBook::with_room(alloc, 300)?;
+    say_the_same(&mut book, &mut plain)
+}
+
+#[test]
+fn the_plain_book_says_the_same(rt: HostRuntime) -> Result<(), Fail> {
+    assert!(rt; new_books_say_the_same(rt.alloc())?);
     Ok(())
 }
