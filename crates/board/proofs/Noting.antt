@@ -19,9 +19,9 @@ use Rattle.reg_entry.specs.declared.sub_card.SubCard.{SubCard}
 use Rattle.reg_entry.specs.Ranges.{same_space, same_range, value_of_range, lies_inside, ranges_meet, ranges_inside, AreApart}
 use Rattle.reg_laws.proofs.RangeLists.{AllOf, ranges_of_apart}
 use Rattle.sub_book.specs.Book.{ranges_meeting}
-use Rattle.op_feed.specs.PieceChanges.{pieces_gone, pieces_come, piece_changes}
+use Rattle.op_feed.specs.PieceChanges.{pieces_gone, pieces_come}
 use Rattle.op_feed.specs.EntryChanges.{dels, adds, entry_changes}
-use Rattle.board.specs.Noted.{PlainOperations, noted, all_noted, all_block_changes, is_act, block_changes}
+use Rattle.board.specs.Noted.{PlainOperations, noted, all_noted}
 
 pub all_noted-append : (o : PlainOperations) (cs ds : List (Act × Object)) → all_noted o (cs ++ ds) ≡ all_noted (all_noted o cs) ds
 all_noted-append o [] ds = refl
@@ -94,55 +94,6 @@ pub dropped_serial : (o next : PlainOperations) (s : PlainRange × List (List �
     → next.serial ≡ o.serial + length (cuts_of s)
 dropped_serial o next s is = ap (λ x. x.serial) is ∙ serial_noted o (dels (cuts_of s)) ∙ ap (λ n. o.serial + n) (length_dels (cuts_of s))
 
--- ---- the pieces
-
-gone_of : (hs : List (Holder × ℕ)) (act : Act) (ps : List Piece) (rest : List (Act × Piece)) → is_act act act ≡ true
-    → block_changes hs act (map (λ p. (act, p)) ps ++ rest) ≡ map (λ o. (act, o)) (blocks_of hs ps) ++ block_changes hs act rest
-gone_of hs act [] rest e = refl
-gone_of hs act (p ∷ ps) rest e =
-    ap (map (λ c. (act, block_of_piece hs c.1)))
-    (cond-true (is_act act act) ((act, p) ∷ filter (λ c. is_act c.0 act) (map (λ q. (act, q)) ps ++ rest)) (filter (λ c. is_act c.0 act) (map (λ q. (act, q)) ps ++ rest)) e)
-    ∙ ap (λ xs. (act, block_of_piece hs p) ∷ xs) (gone_of hs act ps rest e)
-
-none_of : (hs : List (Holder × ℕ)) (act other : Act) (ps : List Piece) (rest : List (Act × Piece)) → is_act other act ≡ false
-    → block_changes hs act (map (λ p. (other, p)) ps ++ rest) ≡ block_changes hs act rest
-none_of hs act other [] rest e = refl
-none_of hs act other (p ∷ ps) rest e =
-    ap (map (λ c. (act, block_of_piece hs c.1)))
-    (cond-false (is_act other act) ((other, p) ∷ filter (λ c. is_act c.0 act) (map (λ q. (other, q)) ps ++ rest)) (filter (λ c. is_act c.0 act) (map (λ q. (other, q)) ps ++ rest)) e)
-    ∙ none_of hs act other ps rest e
-
-pub dels_are : (hs : List (Holder × ℕ)) (before after : List Piece)
-    → block_changes hs Del (piece_changes before after) ≡ dels (blocks_of hs (pieces_gone before after))
-dels_are hs before after =
-    gone_of hs Del (pieces_gone before after) (map (λ p. (Add, p)) (pieces_come before after)) refl
-    ∙ ap (λ xs. dels (blocks_of hs (pieces_gone before after)) ++ xs)
-    (ap (λ xs. block_changes hs Del xs) (sym (append-nil (map (λ p. (Add, p)) (pieces_come before after)))) ∙ none_of hs Del Add (pieces_come before after) [] refl)
-    ∙ append-nil (dels (blocks_of hs (pieces_gone before after)))
-
-pub adds_are : (hs : List (Holder × ℕ)) (before after : List Piece)
-    → block_changes hs Add (piece_changes before after) ≡ adds (blocks_of hs (pieces_come before after))
-adds_are hs before after =
-    none_of hs Add Del (pieces_gone before after) (map (λ p. (Add, p)) (pieces_come before after)) refl
-    ∙ ap (λ xs. block_changes hs Add xs) (sym (append-nil (map (λ p. (Add, p)) (pieces_come before after))))
-    ∙ gone_of hs Add (pieces_come before after) [] refl
-    ∙ append-nil (adds (blocks_of hs (pieces_come before after)))
-
-abbrev block_change : List (Holder × ℕ) → Act × Piece → Act × Object
-block_change hs c = (c.0, block_of_piece hs c.1)
-
-changes_of_act : (hs : List (Holder × ℕ)) (act : Act) (ps : List Piece)
-    → map (block_change hs) (map (λ p. (act, p)) ps) ≡ map (λ o. (act, o)) (blocks_of hs ps)
-changes_of_act hs act [] = refl
-changes_of_act hs act (p ∷ ps) = ap (λ cs. (act, block_of_piece hs p) ∷ cs) (changes_of_act hs act ps)
-
-pub changes_are : (hs : List (Holder × ℕ)) (before after : List Piece)
-    → all_block_changes hs (piece_changes before after) ≡ dels (blocks_of hs (pieces_gone before after)) ++ adds (blocks_of hs (pieces_come before after))
-changes_are hs before after =
-    map-append (block_change hs) (map (λ p. (Del, p)) (pieces_gone before after)) (map (λ p. (Add, p)) (pieces_come before after))
-    ∙ ap (λ xs. xs ++ map (block_change hs) (map (λ p. (Add, p)) (pieces_come before after))) (changes_of_act hs Del (pieces_gone before after))
-    ∙ ap (λ xs. dels (blocks_of hs (pieces_gone before after)) ++ xs) (changes_of_act hs Add (pieces_come before after))
-
 -- ---- all of an entry
 
 last_of_last : {A : Type 0} (count : ℕ) (xs ys : List A) → last_of count (last_of count xs ++ ys) ≡ last_of count (xs ++ ys)
@@ -192,8 +143,8 @@ noted_in_three o p q r xs ys zs e f g =
 pub serial_after : (o p : PlainOperations) (xs : List (Act × Object)) → p ≡ all_noted o xs → p.serial ≡ o.serial + length xs
 serial_after o p xs e = ap (λ x. x.serial) e ∙ serial_noted o xs
 
-pub fits_first : (serial : ℕ) (xs ys zs : List (Act × Object)) (most : ℕ) → zs ≡ xs → serial + length (xs ++ ys) < most → serial + length zs < most
-fits_first serial xs ys zs most e h = let a = length-append xs ys in let b = ap length e in omega arith
+pub fits_first : (serial : ℕ) (xs ys : List (Act × Object)) (most : ℕ) → serial + length (xs ++ ys) < most → serial + length xs < most
+fits_first serial xs ys most h = let a = length-append xs ys in omega arith
 
 pub fits_second : (o p : PlainOperations) (xs : List (Act × Object)) (os : List Object) (zs : List (Act × Object)) (most : ℕ) → p ≡ all_noted o xs
     → o.serial + length (xs ++ (dels os ++ zs)) < most → p.serial + length os < most
@@ -204,20 +155,18 @@ fits_second o p xs os zs most e h =
     let s = serial_after o p xs e in
     omega arith
 
-pub fits_third : (o p q : PlainOperations) (xs ys zs ws : List (Act × Object)) (most : ℕ) → p ≡ all_noted o xs → q ≡ all_noted p ys → ws ≡ zs
-    → o.serial + length (xs ++ (ys ++ zs)) < most → q.serial + length ws < most
-fits_third o p q xs ys zs ws most e f g h =
+pub fits_third : (o p q : PlainOperations) (xs ys zs : List (Act × Object)) (most : ℕ) → p ≡ all_noted o xs → q ≡ all_noted p ys
+    → o.serial + length (xs ++ (ys ++ zs)) < most → q.serial + length zs < most
+fits_third o p q xs ys zs most e f h =
     let a = length-append xs (ys ++ zs) in
     let b = length-append ys zs in
     let s = serial_after o p xs e in
     let t = serial_after p q ys f in
-    let n = ap length g in
     omega arith
 
-pub fits_behind : (o p : PlainOperations) (xs zs ws : List (Act × Object)) (most : ℕ) → p ≡ all_noted o xs → ws ≡ zs → o.serial + length (xs ++ zs) < most
-    → p.serial + length ws < most
-fits_behind o p xs zs ws most e g h =
-    let a = length-append xs zs in let s = serial_after o p xs e in let n = ap length g in omega arith
+pub fits_behind : (o p : PlainOperations) (xs zs : List (Act × Object)) (most : ℕ) → p ≡ all_noted o xs → o.serial + length (xs ++ zs) < most
+    → p.serial + length zs < most
+fits_behind o p xs zs most e h = let a = length-append xs zs in let s = serial_after o p xs e in omega arith
 
 -- ---- the holder of a sub that is there
 

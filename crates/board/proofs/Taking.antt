@@ -1,14 +1,13 @@
 -- What the books and the operations need, and make, of the next entry.
 use Rattle.std.proofs.Common.{◌≡◌, ℕ, ◌+◌, ◌-◌, ◌<◌, ◌≤◌, ◌==◌, Bool, false, inl, inr, List, [], ◌∷◌, ◌++◌, Option, None, Some, MatchOption, IsSome, ◌↔◌, find, filter, map, length, slice_get, zero, suc, refl, sym, ◌∙◌, ap, subst, arith}
 use Rattle.std.specs.List.{AllByRecursion}
-use Rattle.std.proofs.lemmas.Bool.{both_ways, cond_both, cond-true, cond-false, eq-eqb, ne_eqb, cases_eq}
+use Rattle.std.proofs.lemmas.Bool.{both_ways, cond-true, cond-false, eq-eqb, ne_eqb, cases_eq}
 use Rattle.std.proofs.lemmas.List.{length-map}
 use Rattle.num_range.specs.declared.space.Space.{Space}
 use Rattle.num_range.specs.Range.{PlainRange}
 use Rattle.reg_entry.specs.declared.holder.Holder.{Holder}
 use Rattle.reg_entry.specs.declared.object.Object.{Object}
 use Rattle.reg_entry.specs.declared.object.Act.{Act}
-use Rattle.reg_entry.specs.declared.object.Act.TheVariants.{Add, Del}
 use Rattle.reg_entry.specs.declared.piece.Piece.{Piece}
 use Rattle.reg_entry.specs.declared.request.Request.{Request}
 use Rattle.reg_entry.specs.declared.request.Request.TheVariants.{AddHolder, EditHolder}
@@ -24,7 +23,6 @@ use Rattle.reg_entry.specs.Whole.{AreSubsIn, IsWholeRegister}
 use Rattle.reg_laws.proofs.HolderFacts.{edited}
 use Rattle.reg_laws.proofs.NextFacts.{next_facts}
 use Rattle.reg_laws.proofs.WholeStep.{next_whole}
-use Rattle.op_feed.specs.PieceChanges.{goes, comes, piece_changes}
 use Rattle.op_feed.specs.ReachedBoard.{first_kept, HaveSerialsFrom}
 use Rattle.op_feed.specs.TouchedBy.{IsTouchedBy}
 use Rattle.op_feed.proofs.Local.{Each, each_front, each_back}
@@ -38,7 +36,7 @@ use Rattle.board.proofs.Steps.{register_in}
 
 -- ---- the holders of what is touched
 
-known_before : (r : Register) (pool : Partition) (before after : List Piece) → IsWholeRegister r → IsTouchedBy r.pool pool before after
+pub known_before : (r : Register) (pool : Partition) (before after : List Piece) → IsWholeRegister r → IsTouchedBy r.pool pool before after
     → Each (HasHolderIn r.holders) before
 known_before r pool before after h t =
     each_front (HasHolderIn r.holders) before t.back
@@ -70,34 +68,12 @@ known_there r e space (EditHolder holder) h next is =
     (ap (λ (q : Request). length (holders_after q e.day r.holders)) is ∙ length-map r.holders (edited holder e.day))
 known_there r e space request h next is = known_of_length r e space h next (ap (λ (q : Request). length (holders_after q e.day r.holders)) is)
 
-known_after : (r : Register) (e : PlainEntry) (before after : List Piece) → IsWholeRegister r → IsNextEntry r e
+pub known_after : (r : Register) (e : PlainEntry) (before after : List Piece) → IsWholeRegister r → IsNextEntry r e
     → IsTouchedBy r.pool (pool_after e.request e.cover e.card r.pool) before after → Each (HasHolderIn r.holders) after
 known_after r e before after h next t =
     each_front (HasHolderIn r.holders) after t.back
     (each_back (HasHolderIn r.holders) t.front (after ++ t.back)
     (subst (Each (HasHolderIn r.holders)) t.stands (known_there r e t.space e.request h next refl)))
-
--- what is known of pieces is known of their changes
-known_kept : (hs : List (Holder × ℕ)) (act : Act) (test : Piece → Bool) (ps : List Piece) (rest : List (Act × Piece)) → Each (HasHolderIn hs) ps
-    → HaveHolders hs rest → HaveHolders hs (map (λ p. (act, p)) (filter test ps) ++ rest)
-known_kept hs act test [] rest h k = k
-known_kept hs act test (p ∷ ps) rest h k =
-    cond_both (test p) (p ∷ filter test ps) (filter test ps) (λ xs. HaveHolders hs (map (λ q. (act, q)) xs ++ rest))
-    (λ e. (h.0, known_kept hs act test ps rest h.1 k)) (λ e. known_kept hs act test ps rest h.1 k)
-
-known_come : (hs : List (Holder × ℕ)) (act : Act) (test : Piece → Bool) (ps : List Piece) → Each (HasHolderIn hs) ps
-    → HaveHolders hs (map (λ p. (act, p)) (filter test ps))
-known_come hs act test [] h = tt
-known_come hs act test (p ∷ ps) h =
-    cond_both (test p) (p ∷ filter test ps) (filter test ps) (λ xs. HaveHolders hs (map (λ q. (act, q)) xs))
-    (λ e. (h.0, known_come hs act test ps h.1)) (λ e. known_come hs act test ps h.1)
-
-pub known_changes : (r : Register) (e : PlainEntry) (before after : List Piece) → IsWholeRegister r → IsNextEntry r e
-    → IsTouchedBy r.pool (pool_after e.request e.cover e.card r.pool) before after → HaveHolders r.holders (piece_changes before after)
-known_changes r e before after h next t =
-    known_kept r.holders Del (goes after) before (map (λ p. (Add, p)) (filter (comes before) after))
-    (known_before r (pool_after e.request e.cover e.card r.pool) before after h t)
-    (known_come r.holders Add (comes before) after (known_after r e before after h next t))
 
 pub known_subs : (r : Register) (ss : List (PlainRange × SubCard)) → AreSubsIn r ss → AllByRecursion (λ s. s.1.holder < length r.holders) ss
 known_subs r [] h = tt

@@ -11,14 +11,14 @@ ghost use Rattle.reg_entry.specs.Objects.{block_of_piece, blocks_of, sub_of, cut
 ghost use Rattle.reg_entry.specs.declared.object.Act.TheVariants.{Add};
 ghost use Rattle.reg_entry.specs.declared.object.Object.TheVariants.{Org, Cut};
 ghost use Rattle.reg_entry.specs.Ranges.{ranges_inside, value_of_range};
-ghost use Rattle.op_feed.specs.PieceChanges.{pieces_gone, pieces_come, piece_changes};
+ghost use Rattle.op_feed.specs.PieceChanges.{pieces_gone, pieces_come};
 ghost use Rattle.op_feed.specs.EntryChanges.{dels, adds, edit_changes, server_changes, entry_changes};
-ghost use Rattle.board.specs.Noted.{noted, all_noted, all_block_changes, block_changes, HaveHolders};
+ghost use Rattle.board.specs.Noted.{noted, all_noted, HaveHolders};
 
 use cidr_cover::cuts;
 use holder_book::HolderBook;
 use num_range::Range;
-use op_feed::changes;
+use op_feed::{comes, goes};
 use op_window::OpWindow;
 use reg_entry::{Act, Entry, Handle, Holder, Op, Piece, Request, Servers, SubCard, Touched};
 use std::alloc::{AllocError, Global};
@@ -157,7 +157,8 @@ impl Operations {
         entry: &Entry,
         touched: &Touched,
     )
-        requires pieces { HaveHolders holders.now.holders (piece_changes touched.now.before.items touched.now.after.items) }
+        requires before { HaveHolders holders.now.holders touched.now.before.items }
+        requires after { HaveHolders holders.now.holders touched.now.after.items }
         requires subs { AllByRecursion (λ s. s.1.holder < length holders.now.holders) subs.now.ranges }
         requires room { self.old.serial + length (entry_changes holders.now.holders subs.now.ranges reverse.now.ranges entry.now.day
             touched.now.before.items touched.now.after.items entry.now.request) < 2 ^ 64 }
@@ -175,7 +176,7 @@ impl Operations {
             Request::SetReverse { range, servers } => self.note_servers(reverse, range, servers),
             Request::ClearReverse { range } => self.note_cleared(reverse, range),
             Request::Return { range, .. } => self.note_return(holders, reverse, range, touched),
-            _ => self.note_changes(touched, holders),
+            _ => self.note_pieces(holders, touched),
         }
     }
 
@@ -199,7 +200,8 @@ impl Operations {
         range: &Range,
         touched: &Touched,
     )
-        requires known { HaveHolders holders.now.holders (piece_changes touched.now.before.items touched.now.after.items) }
+        requires before { HaveHolders holders.now.holders touched.now.before.items }
+        requires after { HaveHolders holders.now.holders touched.now.after.items }
         requires room { self.old.serial + length (dels (blocks_of holders.now.holders (pieces_gone touched.now.before.items touched.now.after.items))
             ++ (dels (flat_map cuts_of (ranges_inside reverse.now.ranges range.now))
             ++ adds (blocks_of holders.now.holders (pieces_come touched.now.before.items touched.now.after.items)))) < 2 ^ 64 }
@@ -207,9 +209,9 @@ impl Operations {
             ++ (dels (flat_map cuts_of (ranges_inside reverse.now.ranges range.now))
             ++ adds (blocks_of holders.now.holders (pieces_come touched.now.before.items touched.now.after.items)))) }
     {
-        self.note_pieces(Act::Del, touched, holders);
+        self.note_gone(holders, touched);
         self.note_dropped(reverse, range);
-        self.note_pieces(Act::Add, touched, holders);
+        self.note_come(holders, touched);
     }
 
     /// Notes the block that is published of a piece.
@@ -223,26 +225,47 @@ impl Operations {
     }
 
     /// Notes the pieces that go, and then those that come.
-    fn note_changes(&mut self, touched: &Touched, holders: &HolderBook)
-        requires known { HaveHolders holders.now.holders (piece_changes touched.now.before.items touched.now.after.items) }
-        requires room { self.old.serial + length (all_block_changes holders.now.holders (piece_changes touched.now.before.items touched.now.after.items)) < 2 ^ 64 }
-        ensures { self.new ≡ all_noted self.old (all_block_changes holders.now.holders (piece_changes touched.now.before.items touched.now.after.items)) }
+    fn note_pieces(&mut self, holders: &HolderBook, touched: &Touched)
+        requires before { HaveHolders holders.now.holders touched.now.before.items }
+        requires after { HaveHolders holders.now.holders touched.now.after.items }
+        requires room { self.old.serial + length (dels (blocks_of holders.now.holders (pieces_gone touched.now.before.items touched.now.after.items))
+            ++ adds (blocks_of holders.now.holders (pieces_come touched.now.before.items touched.now.after.items))) < 2 ^ 64 }
+        ensures { self.new ≡ all_noted self.old (dels (blocks_of holders.now.holders (pieces_gone touched.now.before.items touched.now.after.items))
+            ++ adds (blocks_of holders.now.holders (pieces_come touched.now.before.items touched.now.after.items))) }
     {
-        for (act, piece) in changes(touched) {
-            self.note_block(act, &piece, holders);
+        self.note_gone(holders, touched);
+        self.note_come(holders, touched);
+    }
+
+    /// Notes the pieces that go.
+    fn note_gone(&mut self, holders: &HolderBook, touched: &Touched)
+        requires known { HaveHolders holders.now.holders touched.now.before.items }
+        requires room { self.old.serial + length (dels (blocks_of holders.now.holders (pieces_gone touched.now.before.items touched.now.after.items))) < 2 ^ 64 }
+        ensures { self.new ≡ all_noted self.old (dels (blocks_of holders.now.holders (pieces_gone touched.now.before.items touched.now.after.items))) }
+    {
+        let after = touched.after.as_slice();
+        let mut left = touched.before.as_slice();
+        while let [piece, rest @ ..] = left {
+            if goes(after, piece) {
+                self.note_block(Act::Del, piece, holders);
+            }
+            left = rest;
         }
     }
 
-    /// Notes the pieces that go, or those that come.
-    fn note_pieces(&mut self, act: Act, touched: &Touched, holders: &HolderBook)
-        requires known { HaveHolders holders.now.holders (piece_changes touched.now.before.items touched.now.after.items) }
-        requires room { self.old.serial + length (block_changes holders.now.holders act (piece_changes touched.now.before.items touched.now.after.items)) < 2 ^ 64 }
-        ensures { self.new ≡ all_noted self.old (block_changes holders.now.holders act (piece_changes touched.now.before.items touched.now.after.items)) }
+    /// Notes the pieces that come.
+    fn note_come(&mut self, holders: &HolderBook, touched: &Touched)
+        requires known { HaveHolders holders.now.holders touched.now.after.items }
+        requires room { self.old.serial + length (adds (blocks_of holders.now.holders (pieces_come touched.now.before.items touched.now.after.items))) < 2 ^ 64 }
+        ensures { self.new ≡ all_noted self.old (adds (blocks_of holders.now.holders (pieces_come touched.now.before.items touched.now.after.items))) }
     {
-        for (found, piece) in changes(touched) {
-            if found == act {
-                self.note_block(act, &piece, holders);
+        let before = touched.before.as_slice();
+        let mut left = touched.after.as_slice();
+        while let [piece, rest @ ..] = left {
+            if comes(before, piece) {
+                self.note_block(Act::Add, piece, holders);
             }
+            left = rest;
         }
     }
 }

@@ -1,9 +1,7 @@
 -- How the pieces of a space change, from those that were touched alone.
-use Rattle.std.specs.Prelude.{Bool, false, not, ◌&&◌, List, ◌++◌, Option, find, filter, map}
+use Rattle.std.specs.Prelude.{Bool, false, not, ◌&&◌, List, Option, find, filter}
 use Rattle.std.specs.Option.{is_none, option_map_or}
 use Rattle.num_range.specs.Range.{PlainRange}
-use Rattle.reg_entry.specs.declared.object.Act.{Act}
-use Rattle.reg_entry.specs.declared.object.Act.TheVariants.{Add, Del}
 use Rattle.reg_entry.specs.declared.piece.Piece.{Piece}
 use Rattle.reg_entry.specs.Card.{same_card}
 use Rattle.reg_entry.specs.Ranges.{same_range}
@@ -28,8 +26,3 @@ pieces_gone before after = filter (goes after) before
 
 abbrev pub pieces_come : List Piece → List Piece → List Piece
 pieces_come before after = filter (comes before) after
-
--- the old pieces whose range no new piece has, and then the pieces that are new, or new at their range
-abbrev pub piece_changes : List Piece → List Piece → List (Act × Piece)
-piece_changes before after =
-    map (λ p. (Del, p)) (pieces_gone before after) ++ map (λ p. (Add, p)) (pieces_come before after)

@@ -15,7 +15,7 @@ use Rattle.board.specs.Kept.{register_of, board_of, AreHoldingsIn}
 use Rattle.board.specs.Noted.{PlainOperations}
 use Rattle.board.proofs.Noting.{window_noted}
 use Rattle.board.proofs.Steps.{register_is, register_in, entry_in, kept_by}
-use Rattle.board.proofs.Taking.{rest_in, next_in, known_changes, known_subs, board_is}
+use Rattle.board.proofs.Taking.{rest_in, next_in, known_before, known_after, known_subs, board_is}
 use Rattle.board.proofs.board.Board.take_in.Goals as goal
 
 pub change_holdings-requires : goal.change_holdings-requires
@@ -54,7 +54,8 @@ note_entry-requires c =
     let more : IsReachedBoard (board_after_entry b e) = c.entries_reach_boards.ensures.next b e kept.board next in
     let bound : c.self.inside.operations.serial + length (changes_of r e) ≤ 288230376151711744 = c.reached_boards_number_operations.ensures.bound (board_after_entry b e) kept.books.rooms more in
     record {
-      pieces = known_changes r e before after whole next is;
+      before = known_before r (after_entry r e).pool before after whole is;
+      after = known_after r e before after whole next is;
       subs = known_subs r r.subs whole.subs;
       room = (let same = ap (λ (cs : List (Act × Object)). length cs) changes in omega arith);
     }
