@@ -26,7 +26,6 @@ use std::marker::Model;
 use sub_book::RangeBook;
 
 /// The register after the entries so far.
-#[derive(Drop)]
 pub struct Board {
     pieces: PieceBook,
     holders: HolderBook,
@@ -49,6 +48,24 @@ impl Model for Board {
     ghost view = { λ b. board_of (register_of b.rooms b.entries b.first_day b.last_day b.pieces b.holders b.subs b.reverse) b.operations };
 
     ghost invariant = { λ b. IsKeptBoard (register_of b.rooms b.entries b.first_day b.last_day b.pieces b.holders b.subs b.reverse) b.pieces.room b.holders.room b.subs.room b.reverse.room b.holdings b.operations };
+}
+
+/// All the books go. It is written out, since whoever lets a board go would have to prove a derived one again.
+impl Drop for Board {
+    fn drop(self) {
+        let Board {
+            pieces: _pieces,
+            holders: _holders,
+            subs: _subs,
+            reverse: _reverse,
+            holdings: _holdings,
+            rooms: _rooms,
+            entries: _entries,
+            first_day: _first_day,
+            last_day: _last_day,
+            operations: _operations,
+        } = self;
+    }
 }
 
 /// The day of the first entry, once there was one more on a day.

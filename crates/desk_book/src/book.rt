@@ -46,98 +46,6 @@ impl Model for Book {
     ghost invariant = { λ b. IsKeptBook b.list.items b.head b.press b.owed };
 }
 
-/// Lets a board go. It is a function of its own, so that this is proved once.
-fn discard(board: Board) {
-    drop(board);
-}
-
-/// A book over three boards without entries, one of which is its head.
-fn opened<R: Wait>(
-    rt: &R,
-    alloc: Global,
-    head: Board,
-    one: Board,
-    two: Board,
-    passes: u32,
-) -> Result<(Book, Vec<Pass>), AllocError>
-    requires passes { 1 ≤ passes }
-    requires head { head ≡ empty_board head.register.rooms }
-    requires one { one ≡ head }
-    requires two { two ≡ one }
-    ensures rooms { IfOk result (λ r. r.0.rooms ≡ head.register.rooms) }
-    ensures entries { IfOk result (λ r. (r.0.entries ≡ []) × (r.0.published ≡ [])) }
-    ensures count { IfOk result (λ r. length r.1.items ≡ passes) }
-    ensures passes { IfOk result (λ r. All (λ p. p ≡ first_pass r.0) r.1.items) }
-{
-    match open_snapshots(rt, alloc, one, two, &[], passes) {
-        Ok((press, passes)) => {
-            let book = Book {
-                list: Vec::new(alloc),
-                head,
-                press,
-                owed: None,
-            };
-            Ok((book, passes))
-        }
-        Err(_) => {
-            discard(head);
-            Err(AllocError)
-        }
-    }
-}
-
-/// The same, where one board or two have been made. Each is a function of its own, so that a board is let go in one place.
-fn opened_with_two<R: Wait>(
-    rt: &R,
-    alloc: Global,
-    rooms: Rooms,
-    head: Board,
-    one: Board,
-    passes: u32,
-) -> Result<(Book, Vec<Pass>), AllocError>
-    requires rooms { AreRooms rooms }
-    requires passes { 1 ≤ passes }
-    requires head { head ≡ empty_board rooms }
-    requires one { one ≡ head }
-    ensures rooms { IfOk result (λ r. r.0.rooms ≡ rooms) }
-    ensures entries { IfOk result (λ r. (r.0.entries ≡ []) × (r.0.published ≡ [])) }
-    ensures count { IfOk result (λ r. length r.1.items ≡ passes) }
-    ensures passes { IfOk result (λ r. All (λ p. p ≡ first_pass r.0) r.1.items) }
-{
-    match Board::with_room(alloc, rooms) {
-        Ok(two) => opened(rt, alloc, head, one, two, passes),
-        Err(_) => {
-            discard(head);
-            discard(one);
-            Err(AllocError)
-        }
-    }
-}
-
-fn opened_with_one<R: Wait>(
-    rt: &R,
-    alloc: Global,
-    rooms: Rooms,
-    head: Board,
-    passes: u32,
-) -> Result<(Book, Vec<Pass>), AllocError>
-    requires rooms { AreRooms rooms }
-    requires passes { 1 ≤ passes }
-    requires head { head ≡ empty_board rooms }
-    ensures rooms { IfOk result (λ r. r.0.rooms ≡ rooms) }
-    ensures entries { IfOk result (λ r. (r.0.entries ≡ []) × (r.0.published ≡ [])) }
-    ensures count { IfOk result (λ r. length r.1.items ≡ passes) }
-    ensures passes { IfOk result (λ r. All (λ p. p ≡ first_pass r.0) r.1.items) }
-{
-    match Board::with_room(alloc, rooms) {
-        Ok(one) => opened_with_two(rt, alloc, rooms, head, one, passes),
-        Err(_) => {
-            discard(head);
-            Err(AllocError)
-        }
-    }
-}
-
 impl Book {
     /// A book without entries, and those who look at what it publishes. Three boards take all the memory that their rooms
     /// ask for; the list takes its own as it grows.
@@ -155,7 +63,16 @@ impl Book {
         ensures passes { IfOk result (λ r. All (λ p. p ≡ first_pass r.0) r.1.items) }
     {
         let head = Board::with_room(alloc, rooms)?;
-        opened_with_one(rt, alloc, rooms, head, passes)
+        let one = Board::with_room(alloc, rooms)?;
+        let two = Board::with_room(alloc, rooms)?;
+        let (press, passes) = open_snapshots(rt, alloc, one, two, &[], passes)?;
+        let book = Book {
+            list: Vec::new(alloc),
+            head,
+            press,
+            owed: None,
+        };
+        Ok((book, passes))
     }
 
     /// Publishes the entry that is owed, if one is. It wants memory only for that; where there is none nothing changes.
