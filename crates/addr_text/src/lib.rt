@@ -19,6 +19,3 @@ pub use laws::{computes_spelled, reads_written, shortens_longest, spells_one, sp
 pub use number::{read_asn, read_number, write_number};
 pub use parted::parted_at;
 pub use range::{read_range, write_range};
-
-#[cfg(test)]
-mod tests;

@@ -13,8 +13,6 @@ mod operations;
 mod pooled;
 mod reverse_conditions;
 mod sub_conditions;
-#[cfg(test)]
-mod tests;
 
 pub use board::Board;
 pub use lens::{Answer, Body, Lens, Media};

@@ -6,8 +6,6 @@ mod cover_walk;
 mod cut_walk;
 mod front;
 pub mod laws;
-#[cfg(test)]
-mod tests;
 
 pub use cover_walk::{CoverWalk, cover};
 pub use cut_walk::{CutWalk, cuts};

@@ -5,7 +5,5 @@ mod command;
 pub mod laws;
 mod number;
 mod table;
-#[cfg(test)]
-mod tests;
 
 pub use command::{Command, Publication};

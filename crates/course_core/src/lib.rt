@@ -5,8 +5,6 @@
 mod course;
 mod event;
 pub mod laws;
-#[cfg(test)]
-mod tests;
 
 pub use course::Course;
 pub use event::{Event, Said};

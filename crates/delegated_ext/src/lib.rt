@@ -10,8 +10,6 @@ mod record_text;
 mod records;
 mod statistics;
 mod stats_lens;
-#[cfg(test)]
-mod tests;
 
 pub use record_line::RecordLine;
 pub use statistics::write_stats;

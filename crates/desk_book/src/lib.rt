@@ -7,8 +7,6 @@ mod desk;
 mod fault;
 mod locked;
 mod naming;
-#[cfg(test)]
-mod tests;
 
 pub use book::Book;
 pub use desk::Desk;

@@ -5,8 +5,6 @@
 mod entry_line;
 pub mod laws;
 mod line;
-#[cfg(test)]
-mod read_tests;
 mod rest;
 mod values;
 mod verb;

@@ -8,8 +8,6 @@ pub mod laws;
 mod reply_text;
 mod request_text;
 mod shown_text;
-#[cfg(test)]
-mod tests;
 mod vocabulary;
 
 pub use due_text::{write_due_count, write_due_piece};

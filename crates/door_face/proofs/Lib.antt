@@ -1,2 +1,1 @@
-pub mod Doors
 pub mod Duties

@@ -35,8 +35,6 @@ pub mod outcome;
 pub mod socket_gate;
 pub mod socket_way;
 pub mod spawner;
-#[cfg(test)]
-mod tests;
 pub mod thread_spawner;
 pub mod way;
 mod working;

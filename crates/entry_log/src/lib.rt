@@ -5,8 +5,6 @@
 mod append;
 mod front;
 mod log;
-#[cfg(test)]
-mod tests;
 
 pub use append::Append;
 pub use front::Front;

@@ -13,9 +13,6 @@ ghost use Rattle.reg_entry.specs.Partition.{pieces_in};
 ghost use Rattle.reg_entry.specs.Pieces.{ArePieces};
 ghost use Rattle.fit_search.specs.Sought.{IsSought};
 
-#[cfg(test)]
-mod tests;
-
 use num_range::{Range, Space};
 use piece_book::{PieceBook, PieceWalk};
 use reg_entry::laws::block_is_least;

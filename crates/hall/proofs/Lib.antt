@@ -6,7 +6,6 @@ pub mod Names
 pub mod Serving
 pub mod Rising
 pub mod Ending
-pub mod Breaking
 pub mod Settled
 pub mod Reading
 pub mod Desks

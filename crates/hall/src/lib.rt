@@ -14,8 +14,6 @@ mod path;
 mod receive;
 mod reply;
 mod stream;
-#[cfg(test)]
-mod tests;
 
 pub use ask::Ask;
 pub use backend::{Backend, Fault};

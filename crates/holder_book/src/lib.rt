@@ -4,7 +4,5 @@
 mod book;
 mod handle_key;
 mod numbered;
-#[cfg(test)]
-mod tests;
 
 pub use book::HolderBook;

@@ -41,5 +41,3 @@ pub mod sink;
 pub mod socket_link;
 pub mod source;
 pub mod system_day;
-#[cfg(test)]
-mod tests;

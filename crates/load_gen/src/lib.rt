@@ -6,8 +6,6 @@ mod draws;
 mod holders;
 pub mod laws;
 mod opening;
-#[cfg(test)]
-mod tests;
 
 pub use draw::{Draw, FIRST_DAY};
 pub use draws::Draws;

@@ -4,7 +4,5 @@
 pub mod laws;
 mod load;
 mod summary;
-#[cfg(test)]
-mod tests;
 
 pub use summary::write_load;

@@ -13,8 +13,6 @@ mod object_lines;
 mod objects;
 mod replica;
 mod serial;
-#[cfg(test)]
-mod tests;
 mod words;
 
 pub use fault::FeedFault;

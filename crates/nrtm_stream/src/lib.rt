@@ -8,8 +8,6 @@ mod number;
 mod query;
 mod source;
 mod stream;
-#[cfg(test)]
-mod tests;
 
 pub use ask::{Ask, AskFault, error_line};
 pub use nrtm_lens::NrtmLens;

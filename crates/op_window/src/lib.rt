@@ -1,8 +1,6 @@
 //! The window of the change stream: its last operations, and how many there were in all.
 #![tactic(auto)]
 
-#[cfg(test)]
-mod tests;
 mod window;
 
 pub use window::OpWindow;

@@ -1,4 +1,3 @@
-mod Checking
 mod Counting
 mod Enough
 mod Firsts

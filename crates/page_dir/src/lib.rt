@@ -10,8 +10,6 @@ mod page_pool;
 mod replacing;
 mod spread;
 mod steps;
-#[cfg(test)]
-mod tests;
 mod tidying;
 mod walk;
 

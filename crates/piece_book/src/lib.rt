@@ -9,8 +9,6 @@ mod parting;
 mod run;
 mod space_book;
 mod sums;
-#[cfg(test)]
-mod tests;
 mod touched;
 mod walk;
 

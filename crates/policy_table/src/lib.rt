@@ -7,8 +7,6 @@ mod hostmasters;
 mod policy;
 mod rows;
 mod section;
-#[cfg(test)]
-mod tests;
 mod token;
 mod zone;
 

@@ -4,7 +4,5 @@
 mod due_walk;
 pub mod laws;
 mod pool_walk;
-#[cfg(test)]
-mod tests;
 
 pub use due_walk::{DueWalk, due, due_count};

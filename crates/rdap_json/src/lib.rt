@@ -7,8 +7,6 @@ pub mod laws;
 mod members;
 mod network;
 mod rdap_lens;
-#[cfg(test)]
-mod tests;
 mod texts;
 mod vcard;
 

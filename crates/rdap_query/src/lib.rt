@@ -4,8 +4,6 @@
 mod ask;
 pub mod laws;
 mod path;
-#[cfg(test)]
-mod tests;
 
 pub use ask::RdapAsk;
 pub use path::read_path;

@@ -2,7 +2,5 @@
 #![tactic(auto)]
 
 mod edge;
-#[cfg(test)]
-mod tests;
 
 pub use edge::EdgeReader;

@@ -21,8 +21,6 @@ mod request;
 mod rooms;
 mod servers;
 mod sub_card;
-#[cfg(test)]
-mod tests;
 mod text;
 mod touched;
 

@@ -4,7 +4,5 @@
 mod decision;
 mod policy_rules;
 mod proposal;
-#[cfg(test)]
-mod tests;
 
 pub use decision::{decide, decide_on_day, undated_refusal};

@@ -8,8 +8,6 @@ mod labels;
 pub mod laws;
 mod lines;
 mod pooled;
-#[cfg(test)]
-mod tests;
 mod zone;
 mod zone_lens;
 

@@ -7,8 +7,6 @@ mod fault;
 pub mod laws;
 mod lines;
 mod read;
-#[cfg(test)]
-mod tests;
 mod write;
 
 pub use attrs::{Attrs, PairWalk};

@@ -9,6 +9,3 @@ mod serving;
 
 pub use fault::ServeFault;
 pub use serving::{Doors, serve};
-
-#[cfg(test)]
-mod tests;

@@ -4,8 +4,6 @@
 
 mod pool;
 mod slot;
-#[cfg(test)]
-mod tests;
 
 pub use pool::Pool;
 pub use slot::Slot;

@@ -8,8 +8,6 @@ mod press;
 mod put;
 mod rule;
 mod shown;
-#[cfg(test)]
-mod tests;
 mod told;
 mod view;
 

@@ -5,9 +5,8 @@ ghost use Rattle.snapshot_pub.specs.Opening.{new_pass};
 
 use crate::pass::Pass;
 use crate::press::Press;
-use crate::shown::Shown;
 use board::Board;
-use entry_log::{Front, Log, open, open_with};
+use entry_log::{Front, Log, open_with};
 use reg_entry::Entry;
 use std::alloc::{AllocError, Global};
 use std::sync::Wait;
@@ -45,12 +44,6 @@ fn with_passes(press: Press, opened: Vec<Pass>, passes: u32) -> (Press, Vec<Pass
     (press, opened)
 }
 
-/// Lets a board go as a part of what is published, so that nothing more is to be proved of that.
-pub(crate) fn discard(board: Board) {
-    let (_log, front) = open();
-    drop(Shown { board, front });
-}
-
 /// Publishes the board of the list, of which there have to be two, and makes the passes, each of which has seen the list.
 pub fn open_snapshots<R: Wait>(
     rt: &R,
@@ -68,13 +61,7 @@ pub fn open_snapshots<R: Wait>(
     ensures count { IfOk result (λ r. length r.1.items ≡ passes) }
     ensures passes { IfOk result (λ r. All (λ p. p ≡ new_pass r.0) r.1.items) }
 {
-    let Ok((log, front, opened)) = prepared(alloc, list, passes) else {
-        discard(one);
-        discard(two);
-        return Err(AllocError);
-    };
-    let Ok(press) = Press::open(rt, alloc, one, two, log, front, passes) else {
-        return Err(AllocError);
-    };
+    let (log, front, opened) = prepared(alloc, list, passes)?;
+    let press = Press::open(rt, alloc, one, two, log, front, passes)?;
     Ok(with_passes(press, opened, passes))
 }

@@ -4,8 +4,6 @@
 mod by_last;
 mod range_book;
 mod range_walk;
-#[cfg(test)]
-mod tests;
 
 pub use range_book::RangeBook;
 pub use range_walk::RangeWalk;

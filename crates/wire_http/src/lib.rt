@@ -11,8 +11,6 @@ mod message;
 mod number;
 mod reply;
 mod reply_error;
-#[cfg(test)]
-mod tests;
 
 pub use framer::Framer;
 pub use head::Head;

@@ -1,5 +1,0 @@
-use Rattle.desk_book.proofs.tests.are_answered_over_new_book.Given as goal
-
--- the snapshots are those of the book that was opened
-abbrev pub ghosts-are_answered_at_desk : goal.ghosts-are_answered_at_desk
-ghosts-are_answered_at_desk g a = record { book = a.book.book; rooms = a.book.rooms }

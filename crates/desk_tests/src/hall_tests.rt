@@ -1,0 +1,300 @@
+//! Whole connections, byte for byte: what is written to each for what comes, in one piece and in single bytes.
+ghost use Rattle.std.specs.Prelude.{◌≡◌};
+
+mod connections;
+mod desks;
+
+use board::{Answer, Board, Lens};
+use connections::{EACH_KIND, ENDS, NARROWEST};
+use hall::{Backend, Fault, serve};
+use link_face::{FailingLink, FailingSink, FailingSource, FixedDay, Joined, MemSink, MemSource};
+use policy_table::Policy;
+use reg_entry::{Name, Reply, Request, Rooms};
+use std::alloc::{AllocError, Global};
+use std::test::Fail;
+use wire_http::{ConnEnd, Framer};
+
+const POLICY: &[u8] = b"registry = \"exreg\"\nquarantine_days = 30\nhold_days = 365\n\
+    hostmasters = { local = \"k-local-0001\" }\n[zone]\nmname = \"ns1.exreg.example\"\nrname = \"hostmaster.exreg.example\"\n\
+    ttl = 172800\nrefresh = 7200\nretry = 1800\nexpire = 604800\nminimum = 3600\nservers = [\"ns1.exreg.example\"]\n[ipv4]\n\
+    allocated = { least = 20, most = 32, cap = 4294967296, percent = 0, kinds = [\"lir\"] }\n\
+    assigned = { least = 20, most = 32, cap = 4294967296, kinds = [\"lir\", \"enduser\"] }\n[ipv6]\n\
+    allocated = { least = 20, most = 64, cap = 2305843009213693952, percent = 0, kinds = [\"lir\"] }\n\
+    assigned = { least = 32, most = 64, cap = 2305843009213693952, kinds = [\"lir\", \"enduser\"] }\n[asn]\n\
+    allocated = { least = 1, most = 1024, cap = 4294967296, percent = 0, kinds = [\"lir\"] }\n\
+    assigned = { least = 1, most = 1024, cap = 4294967296, kinds = [\"lir\", \"enduser\"] }\n";
+
+const NO_MEMORY: &[u8] = b"HTTP/1.1 503 Service Unavailable\r\n\
+    Content-Type: application/rdap+json\r\n\
+    Content-Length: 110\r\n\
+    \r\n\
+    {\"description\":[\"no memory\"],\"errorCode\":503,\"rdapConformance\":[\"rdap_level_0\"],\"title\":\"Service Unavailable\"}";
+
+const NO_SNAPSHOT: &[u8] = b"HTTP/1.1 503 Service Unavailable\r\n\
+    Content-Type: application/rdap+json\r\n\
+    Content-Length: 112\r\n\
+    \r\n\
+    {\"description\":[\"no snapshot\"],\"errorCode\":503,\"rdapConformance\":[\"rdap_level_0\"],\"title\":\"Service Unavailable\"}";
+
+const DISK_FAILED: &[u8] = b"HTTP/1.1 500 Internal Server Error\r\n\
+    Content-Type: application/rdap+json\r\n\
+    Content-Length: 118\r\n\
+    \r\n\
+    {\"description\":[\"the disk failed\"],\"errorCode\":500,\"rdapConformance\":[\"rdap_level_0\"],\"title\":\"Internal Server Error\"}";
+
+const ROOMS: Rooms = Rooms {
+    pieces: 16,
+    holders: 4,
+    subs: 4,
+    reverse: 4,
+    entries: 16,
+    window: 4,
+};
+
+/// 2024-03-01.
+const DAY: u32 = 19783;
+
+/// What comes and what is written on one connection.
+#[derive(Drop)]
+struct Talk {
+    input: Vec<u8>,
+    output: Vec<u8>,
+}
+
+/// The messages of a table, one behind the other, and the replies to them.
+fn joined(alloc: Global, table: &str) -> Result<Talk, AllocError> {
+    let mut input = Vec::new(alloc);
+    let mut output = Vec::new(alloc);
+    for row in table.split('\x1e') {
+        if let Some((message, reply)) = row.split_once('\x1f') {
+            input.extend_from_slice(message.as_bytes())?;
+            output.extend_from_slice(reply.as_bytes())?;
+        }
+    }
+    Ok(Talk { input, output })
+}
+
+/// Where a connection is tried: over a register of its own, with so many bytes in each piece, and with calls of the link that
+/// fail.
+#[derive(Clone, Copy)]
+struct Trial<'a> {
+    input: &'a [u8],
+    piece: usize,
+    reads: &'a [u64],
+    writes: &'a [u64],
+}
+
+/// How a connection ended, and what was written.
+#[derive(Drop)]
+struct Outcome {
+    end: ConnEnd,
+    written: Vec<u8>,
+}
+
+fn written_of(alloc: Global, bytes: &[u8], end: ConnEnd) -> Result<Outcome, AllocError> {
+    let mut written = Vec::new(alloc);
+    written.extend_from_slice(bytes)?;
+    Ok(Outcome { end, written })
+}
+
+/// Serves a connection over an empty register. No other function of these tests owns a board, and this one has one end behind
+/// it.
+fn end_of(
+    alloc: Global,
+    link: &mut FailingLink<'_>,
+    framer: &mut Framer,
+    policy: &Policy,
+) -> Result<ConnEnd, AllocError> {
+    let mut board = Board::with_room(alloc, ROOMS)?;
+    let clock = FixedDay(DAY);
+    Ok(serve(alloc, link, framer, &mut board, policy, &clock))
+}
+
+fn served(alloc: Global, trial: &Trial<'_>) -> Result<Option<Outcome>, AllocError> {
+    if trial.piece == 0 {
+        return Ok(None);
+    }
+    let mut framer = Framer::new(alloc)?;
+    let Ok(policy) = Policy::read(alloc, POLICY) else {
+        return Ok(None);
+    };
+    let mut link: FailingLink<'_> = Joined {
+        source: FailingSource::new(MemSource::in_pieces(trial.input, trial.piece), trial.reads),
+        sink: FailingSink::new(MemSink::new(alloc), trial.writes, 10),
+    };
+    let end = end_of(alloc, &mut link, &mut framer, &policy)?;
+    written_of(alloc, link.sink.bytes(), end).map(Some)
+}
+
+/// Whether the connection is closed with just this written, in pieces of so many bytes.
+fn is_closed_with(
+    alloc: Global,
+    input: &[u8],
+    output: &[u8],
+    piece: usize,
+) -> Result<bool, AllocError> {
+    let trial = Trial {
+        input,
+        piece,
+        reads: &[],
+        writes: &[],
+    };
+    let Some(outcome) = served(alloc, &trial)? else {
+        return Ok(false);
+    };
+    Ok(outcome.end == ConnEnd::Closed && outcome.written.as_slice() == output)
+}
+
+#[test]
+fn each_kind_of_message_is_answered(rt: HostRuntime) -> Result<(), Fail> {
+    let talk = joined(rt.alloc(), EACH_KIND)?;
+    for piece in [1, 7, usize::MAX] {
+        assert!(rt;
+            is_closed_with(rt.alloc(), &talk.input, &talk.output, piece)?,
+            "in pieces of {piece}"
+        );
+    }
+    Ok(())
+}
+
+#[test]
+fn narrowest_registration_is_found(rt: HostRuntime) -> Result<(), Fail> {
+    let talk = joined(rt.alloc(), NARROWEST)?;
+    for piece in [1, usize::MAX] {
+        assert!(rt;
+            is_closed_with(rt.alloc(), &talk.input, &talk.output, piece)?,
+            "in pieces of {piece}"
+        );
+    }
+    Ok(())
+}
+
+/// The first connection that doesn't end as the table says.
+fn first_other_end(alloc: Global) -> Result<Option<&'static str>, AllocError> {
+    for row in ENDS.split('\x1e') {
+        let Some((input, output)) = row.split_once('\x1f') else {
+            return Ok(Some(row));
+        };
+        for piece in [1, usize::MAX] {
+            if !is_closed_with(alloc, input.as_bytes(), output.as_bytes(), piece)? {
+                return Ok(Some(input));
+            }
+        }
+    }
+    Ok(None)
+}
+
+#[test]
+fn each_end_is_told(rt: HostRuntime) -> Result<(), Fail> {
+    assert_eq!(rt; first_other_end(rt.alloc())?, None);
+    Ok(())
+}
+
+/// How many bytes are written before this call of the link fails, in pieces of a hundred bytes.
+fn written_before(
+    alloc: Global,
+    reads: &[u64],
+    writes: &[u64],
+) -> Result<Option<(ConnEnd, usize)>, AllocError> {
+    let talk = joined(alloc, NARROWEST)?;
+    let trial = Trial {
+        input: &talk.input,
+        piece: 100,
+        reads,
+        writes,
+    };
+    let Some(outcome) = served(alloc, &trial)? else {
+        return Ok(None);
+    };
+    if !talk.output.starts_with(&outcome.written) {
+        return Ok(None);
+    }
+    Ok(Some((outcome.end, outcome.written.len())))
+}
+
+#[test]
+fn failed_link_has_a_front_of_the_replies(rt: HostRuntime) -> Result<(), Fail> {
+    let alloc = rt.alloc();
+    assert_eq!(rt;
+        written_before(alloc, &[0], &[])?,
+        Some((ConnEnd::ReadFault, 0))
+    );
+    assert_eq!(rt;
+        written_before(alloc, &[2], &[])?,
+        Some((ConnEnd::ReadFault, 114))
+    );
+    assert_eq!(rt;
+        written_before(alloc, &[], &[0])?,
+        Some((ConnEnd::WriteFault, 10))
+    );
+    assert_eq!(rt;
+        written_before(alloc, &[], &[1])?,
+        Some((ConnEnd::WriteFault, 124))
+    );
+    Ok(())
+}
+
+/// A register of which every call has this fault.
+#[derive(Drop)]
+struct Broken(Fault);
+
+impl Backend for Broken {
+    ghost use Rattle.std.specs.Prelude.{◌≡◌, ⊤, []};
+    ghost use Rattle.std.proofs.Common.{◌∙◌, sym, append-nil};
+    ghost use Rattle.reg_entry.specs.Operations.{empty_board};
+
+    ghost rooms = { λ _. record { pieces = 1; holders = 1; subs = 1; reverse = 1; entries = 1; window = 1 } };
+
+    ghost stands = { λ _ _. ⊤ };
+
+    ghost goes_on = { λ es fs. fs ≡ es };
+
+    ghost keeps_entries = { λ es fs same. ([], same ∙ sym (append-nil es)) };
+
+    ghost may_fail = { λ _. ⊤ };
+
+    fn look<L: Lens>(&mut self, _alloc: Global, _lens: &L) -> Result<Answer, Fault> {
+        Err(self.0)
+    }
+
+    fn submit(
+        &mut self,
+        _policy: &Policy,
+        _day: u32,
+        _who: &Name,
+        _request: &Request,
+    ) -> Result<(Reply, u64), Fault> {
+        Err(self.0)
+    }
+}
+
+const ASKED: &[u8] = b"GET /stats HTTP/1.1\r\nHost: r\r\n\r\n\
+    POST /desk HTTP/1.1\r\nAuthorization: Bearer k-local-0001\r\nContent-Length: 20\r\n\r\nreceive 192.0.2.0/24";
+
+/// Whether a lookup and a request are both answered by this reply.
+fn is_told(alloc: Global, fault: Fault, reply: &[u8]) -> Result<bool, AllocError> {
+    let mut backend = Broken(fault);
+    let mut framer = Framer::new(alloc)?;
+    let Ok(policy) = Policy::read(alloc, POLICY) else {
+        return Ok(false);
+    };
+    let mut link = Joined {
+        source: MemSource::new(ASKED),
+        sink: MemSink::new(alloc),
+    };
+    let clock = FixedDay(DAY);
+    let end = serve(alloc, &mut link, &mut framer, &mut backend, &policy, &clock);
+    let mut twice = Vec::new(alloc);
+    twice.extend_from_slice(reply)?;
+    twice.extend_from_slice(reply)?;
+    Ok(end == ConnEnd::Closed && link.sink.bytes() == twice.as_slice())
+}
+
+#[test]
+fn faults_are_told(rt: HostRuntime) -> Result<(), Fail> {
+    let alloc = rt.alloc();
+    assert!(rt; is_told(alloc, Fault::NoMemory, NO_MEMORY)?);
+    assert!(rt; is_told(alloc, Fault::Shut, NO_SNAPSHOT)?);
+    assert!(rt; is_told(alloc, Fault::DiskFailed, DISK_FAILED)?);
+    Ok(())
+}
