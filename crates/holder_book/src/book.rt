@@ -15,7 +15,6 @@ use std::marker::Model;
 
 /// The holders in the order of their numbers, from 0, each with the day on which its fields were last given. Making one
 /// takes memory, and nothing after that does.
-#[derive(Drop)]
 pub struct HolderBook {
     holders: Numbered,
     // Their numbers under those of their handles.
@@ -31,6 +30,16 @@ impl Model for HolderBook {
     ghost view = { λ b. b.holders };
 
     ghost invariant = { λ b. IsHolderBook b.holders.holders b.numbers.pairs b.holders.room b.numbers.room };
+}
+
+/// The holders and their handles go. It is written out, as a directory's is.
+impl Drop for HolderBook {
+    fn drop(self) {
+        let HolderBook {
+            holders: _holders,
+            numbers: _numbers,
+        } = self;
+    }
 }
 
 impl HolderBook {

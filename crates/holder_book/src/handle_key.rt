@@ -28,15 +28,15 @@ fn half_key(bytes: &[u8]) -> u64
     ensures { result ≡ handle_key bytes.now }
 {
     let mut key = 0;
-    let mut i = bytes.len();
-    while i > 0 {
-        i -= 1;
+    let mut i = 0;
+    while i < bytes.len() {
         key = u64::from(digit(bytes[i])) + 38 * key;
+        i += 1;
     }
     key
 }
 
-/// What a digit behind 12 others is worth, 38^12.
+/// What a digit before 12 others is worth, 38^12.
 const HALF: u128 = 9_065_737_908_494_995_456;
 
 /// The number of a handle. 24 digits have less than 128 bits; they are added up in halves, since a processor multiplies 64
@@ -49,7 +49,8 @@ pub(crate) fn handle_key(handle: &Handle) -> u128
     if bytes.len() <= 12 {
         return u128::from(half_key(bytes));
     }
-    let low = half_key(&bytes[..12]);
-    let high = half_key(&bytes[12..]);
+    let split = bytes.len() - 12;
+    let high = half_key(&bytes[..split]);
+    let low = half_key(&bytes[split..]);
     u128::from(low) + HALF * u128::from(high)
 }

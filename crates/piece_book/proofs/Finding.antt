@@ -9,9 +9,10 @@ use Rattle.reg_entry.specs.declared.piece.Piece.{Piece}
 use Rattle.reg_entry.specs.Pieces.{piece_holds, piece_at, RisesFrom}
 use Rattle.reg_entry.proofs.Holding.{holds_true, holds_from, not_held_above, not_held_below, piece_at-first, piece_at-rest, piece_at-below}
 use Rattle.piece_book.specs.Exchange.{begun_below}
-use Rattle.piece_book.specs.GivesWay.{giving_way}
+use Rattle.piece_book.specs.GivesWay.{both_available, reach, giving_way}
 use Rattle.piece_book.specs.SpaceBook.{last_begun}
-use Rattle.piece_book.proofs.GivingWay.{reach_small, below_stays, skip}
+use Rattle.reg_entry.specs.Card.{is_available}
+use Rattle.piece_book.proofs.GivingWay.{reach_small, below_stays, above_stays, skip, keep}
 
 -- ---- the piece that begins last
 
@@ -189,4 +190,42 @@ stay_before low x r s (q ∷ ps) p h e l = elim (last_cases (last_begun x ps) (n
       let count : begun_below p.range.first (q ∷ ps) ≡ 0 =
       cond-false (nat_lt q.range.first p.range.first) (1 + begun_below p.range.first ps) 0 (le-ltb q.range.first p.range.first (omega arith)) in
       ap (λ (n : ℕ). giving_way r s (drop n (q ∷ ps))) count
+]
+
+-- ---- the piece that alone gives way
+
+reach_none : (s : Status) (p : Piece) → is_available s ≡ false → reach s p ≡ 0
+reach_none s p e = cond-false (both_available s p) 1 0 (and_right (is_available p.card.status) (is_available s) e)
+
+none_above : (low : ℕ) (r : PlainRange) (s : Status) (ps : List Piece) → is_available s ≡ false → RisesFrom low ps → r.last < low → giving_way r s ps ≡ []
+none_above low r s [] e h l = refl
+none_above low r s (p ∷ ps) e h l =
+    let none = reach_none s p e in
+    skip r s p ps (above_stays r s p (omega (arith, none, h.0))) ∙ none_above (p.range.last + 1) r s ps e h.2 (omega (arith, h.0, h.1))
+
+pub one_around : (low : ℕ) (r : PlainRange) (s : Status) (ps : List Piece) (p : Piece) → r.first ≤ r.last → RisesFrom low ps → is_available s ≡ false
+    → piece_at ps r.first ≡ Some p → r.last ≤ p.range.last → giving_way r s ps ≡ p ∷ []
+one_around low r s [] p o h n e l = absurd (cc e)
+one_around low r s (q ∷ ps) p o h n e l = elim (cases_Bool (piece_holds q r.first)) [
+  | inl t ↦
+      let inside = holds_true q r.first t in
+      let here : Some q ≡ Some p = sym (piece_at-first q ps r.first t) ∙ e in
+      let same : q ≡ p = cc here in
+      let last : q.range.last ≡ p.range.last = ap (λ (y : Piece). y.range.last) same in
+      let gives = and_from (nat_le r.first (q.range.last + reach s q)) (nat_le q.range.first (r.last + reach s q))
+      (le-leb r.first (q.range.last + reach s q) (omega (arith, inside.1))) (le-leb q.range.first (r.last + reach s q) (omega (arith, inside.0, o))) in
+      keep r s q ps gives ∙ ap (λ (xs : List Piece). q ∷ xs) (none_above (q.range.last + 1) r s ps n h.2 (omega (arith, last, l)))
+      ∙ ap (λ (x : Piece). x ∷ []) same
+  | inr t ↦ elim (cases_lt q.range.last r.first) [
+    | inl past ↦
+        let none = reach_none s q n in
+        skip r s q ps (below_stays r s q (omega (arith, none, past)))
+        ∙ one_around (q.range.last + 1) r s ps p o h.2 n (sym (piece_at-rest q ps r.first t) ∙ e) l
+    | inr over ↦ elim (cases_lt r.first q.range.first) [
+      | inl above ↦
+          let none : None ≡ Some p = sym (piece_at-below q.range.first (q ∷ ps) r.first (omega arith, h.1, h.2) above) ∙ e in
+          absurd (cc none)
+      | inr begins ↦ absurd (cc (holds_from q r.first begins over, t))
+    ]
+  ]
 ]

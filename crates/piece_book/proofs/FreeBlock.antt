@@ -2,7 +2,7 @@
 use Rattle.std.proofs.Common.{◌≡◌, ℕ, ◌+◌, ◌-◌, ◌^◌, ◌<◌, ◌≤◌, Bool, true, false, cond, ◌&&◌, ◌==◌, nat_lt, nat_le, List, [], ◌∷◌, map, Option, None, Some, refl, sym, ◌∙◌, ap, subst, inl, inr, arith}
 use Rattle.std.specs.List.{AllByRecursion, count_by, sum_by}
 use Rattle.std.specs.Option.{option_map}
-use Rattle.std.proofs.lemmas.Bool.{cases_Bool, cases_order, and_parts, and_from, and_left, and_right, and_cases, ltb-true, ltb-false, le-ltb, lt-ltb, leb-true, eqb-true, eq-eqb, ne_eqb, false≢true, false_from_ne_true}
+use Rattle.std.proofs.lemmas.Bool.{cases_Bool, cases_order, and_parts, and_from, and_left, and_right, and_cases, ltb-true, ltb-false, le-ltb, lt-ltb, eq-eqb, ne_eqb, false_from_ne_true}
 use Rattle.std.proofs.lemmas.List.Sums.{sum_by-cons}
 use Rattle.std.proofs.lemmas.Nat.{pow_pos}
 use Rattle.num_range.specs.declared.space.Space.{Space}
@@ -16,9 +16,9 @@ use Rattle.reg_entry.specs.Partition.{Partition, pieces_in, IsPartition}
 use Rattle.reg_entry.specs.Blocks.{rounded_up, least_block, IsLeastBlock}
 use Rattle.reg_entry.proofs.LeastBlock.{least_block_is_least}
 use Rattle.piece_book.specs.declared.free.key.FreeKey.{FreeKey}
-use Rattle.piece_book.specs.Free.{key_of, free_keys, keys_of_pool, block_class, serves, passing, HasFirst, IsBlockSize, IsIndexOf, IsLeastFirst}
+use Rattle.piece_book.specs.Free.{key_of, keys_of_pool, block_class, serves, passing, IsBlockSize, IsIndexOf, IsLeastFirst}
 use Rattle.piece_book.proofs.FreePairs.{counts_none, none_counted, counted_at, all_weaker}
-use Rattle.piece_book.proofs.FreeChange.{weight, weight_of, weight_none, free_counts, same_rank}
+use Rattle.piece_book.proofs.FreeChange.{weight, weight_of, weight_none, free_counts}
 use Rattle.piece_book.proofs.FreeClass.{IsClass, class_serves, class_within}
 use Rattle.piece_book.proofs.FreeLeast.{serves_is}
 use Rattle.piece_book.proofs.FreeIndexed.{indexed_passing, pool_counts}

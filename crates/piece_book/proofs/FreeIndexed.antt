@@ -1,28 +1,21 @@
 -- The index of a pool: what a change of the pool does to it, and the least block that it shows.
-use Rattle.std.proofs.Common.{◌≡◌, ℕ, ◌+◌, ◌-◌, ◌^◌, ◌<◌, ◌≤◌, Bool, true, false, cond, ◌&&◌, ◌==◌, nat_lt, nat_le, List, [], ◌∷◌, ◌++◌, ◌⊎◌, length, map, filter, Option, None, Some, refl, sym, ◌∙◌, ap, subst, inl, inr, arith}
-use Rattle.std.specs.Ordering.{is_eq}
-use Rattle.std.specs.List.{AllByRecursion, count_by, sum_by, slice_get}
-use Rattle.std.specs.Option.{option_map}
-use Rattle.std.proofs.lemmas.Bool.{cases_Bool, cases_lt, cases_order, and_parts, and_from, and_left, and_right, ltb-true, ltb-false, le-ltb, lt-ltb, eqb-true, eq-eqb, ne_eqb, false≢true, false_from_ne_true, cond_both}
+use Rattle.std.proofs.Common.{◌≡◌, ℕ, ◌+◌, ◌^◌, ◌<◌, ◌≤◌, Bool, true, cond, List, [], ◌∷◌, ◌++◌, ◌⊎◌, length, map, filter, refl, sym, ◌∙◌, ap, subst, inl, inr, arith}
+use Rattle.std.specs.List.{AllByRecursion, count_by, sum_by}
+use Rattle.std.proofs.lemmas.Bool.{cases_Bool}
 use Rattle.std.proofs.lemmas.List.{length-map}
 use Rattle.std.proofs.lemmas.List.Sums.{sum_by-cons, sum_by-append, length-filter, count_by-le-length}
 use Rattle.num_range.specs.declared.space.Space.{Space}
 use Rattle.num_range.specs.declared.space.Space.TheVariants.{Asn, Ipv4, Ipv6}
-use Rattle.num_range.specs.Space.{space_rank, same_space, top_of}
-use Rattle.num_range.specs.Amount.{alignment}
 use Rattle.num_range.specs.Range.{size_of}
 use Rattle.reg_entry.specs.declared.piece.Piece.{Piece}
 use Rattle.reg_entry.specs.Card.{is_available}
 use Rattle.reg_entry.specs.Pieces.{RisesFrom, AllPiecesOf, IsPieceOf, ArePieces}
 use Rattle.reg_entry.specs.Partition.{Partition, pieces_in, with_pieces, piece_count, IsPartition}
-use Rattle.reg_entry.specs.Blocks.{rounded_up, least_block}
 use Rattle.piece_book.specs.Touched.{IsTouched}
 use Rattle.piece_book.specs.declared.free.key.FreeKey.{FreeKey}
-use Rattle.piece_book.specs.Free.{key_cmp, key_of, is_key, free_keys, keys_of_pool, block_class, serves, passing, IsIndexOf, IsPoolChange, IsLeastFirst, AreCounted, PlainIndex}
-use Rattle.piece_book.proofs.FreePairs.{counts-cons, counts_none, none_counted, counted_at, count_all, all_weaker, equal_is}
+use Rattle.piece_book.specs.Free.{key_cmp, key_of, is_key, free_keys, keys_of_pool, passing, IsIndexOf, AreCounted}
+use Rattle.piece_book.proofs.FreePairs.{counts-cons, count_all, equal_is}
 use Rattle.piece_book.proofs.FreeChange.{same_key, weight, weight_of, weight_none, free_counts, free_counts-append}
-use Rattle.piece_book.proofs.FreeClass.{IsClass, class_serves, class_within}
-use Rattle.piece_book.proofs.FreeLeast.{serves_is}
 
 abbrev Pairs : Type 0
 Pairs = List (FreeKey × Unit {0})

@@ -1,6 +1,5 @@
 -- The order of keys that is derived is that of their spaces, then of their classes, then of their first numbers.
 use Rattle.std.proofs.Common.{◌≡◌, ℕ, refl}
-use Rattle.std.specs.declared.cmp.Ordering.{Ordering}
 use Rattle.num_range.specs.declared.space.Space.{Space}
 use Rattle.num_range.specs.declared.space.Space.TheVariants.{Asn, Ipv4, Ipv6}
 use Rattle.piece_book.specs.declared.free.key.FreeKey.{FreeKey}

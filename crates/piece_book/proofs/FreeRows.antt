@@ -1,6 +1,5 @@
 -- Ranges and how large an aligned block each has room for.
 use Rattle.std.proofs.Common.{◌≡◌, ℕ, ◌+◌, ◌-◌, ◌^◌, refl}
-use Rattle.num_range.specs.declared.space.Space.{Space}
 use Rattle.num_range.specs.declared.space.Space.TheVariants.{Asn, Ipv4, Ipv6}
 use Rattle.num_range.specs.Range.{PlainRange}
 use Rattle.piece_book.specs.Free.{greatest_to, block_class}

@@ -24,7 +24,6 @@ use std::alloc::{AllocError, Global};
 use std::marker::Model;
 
 /// The pieces of the three spaces. Making one takes memory, and nothing after that does.
-#[derive(Drop)]
 pub struct PieceBook {
     asn: SpaceBook,
     ipv4: SpaceBook,
@@ -43,6 +42,19 @@ impl Model for PieceBook {
     ghost view = { λ b. record { partition = partition_of b.asn b.ipv4 b.ipv6; room = b.room } };
 
     ghost invariant = { λ b. IsIndexedBook b.asn b.ipv4 b.ipv6 b.free b.room };
+}
+
+/// The spaces and the index go. It is written out, as a directory's is.
+impl Drop for PieceBook {
+    fn drop(self) {
+        let PieceBook {
+            asn: _asn,
+            ipv4: _ipv4,
+            ipv6: _ipv6,
+            free: _free,
+            room: _room,
+        } = self;
+    }
 }
 
 impl PieceBook {

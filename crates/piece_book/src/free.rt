@@ -8,7 +8,7 @@ mod key;
 mod keys;
 
 use key::{FreeKey, class_of_size, gap};
-use keys::{insert_all, least_first, remove_all};
+use keys::{insert_all, keeps_its_key, least_first, remove_all};
 use num_range::Space;
 use page_dir::PageDir;
 use reg_entry::Touched;
@@ -53,6 +53,9 @@ impl FreeIndex {
         ensures index { (change : IsPoolChange self.old touched.now.before.items touched.now.after.items) → IsIndexOf self.new.keys change.next }
         ensures room { self.new.room ≡ self.old.room }
     {
+        if keeps_its_key(&touched.before, &touched.after) {
+            return;
+        }
         remove_all(&mut self.keys, &touched.before);
         insert_all(&mut self.keys, &touched.after);
     }

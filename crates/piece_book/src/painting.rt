@@ -11,9 +11,9 @@ ghost use Rattle.piece_book.specs.GivesWay.{giving_way, new_first, new_last, res
 ghost use Rattle.piece_book.specs.Run.{AreSeams};
 ghost use Rattle.piece_book.specs.Touched.{IsTouched};
 
-use crate::run::{both_available, giving_way};
+use crate::run::{both_available, giving_way, piece_around};
 use crate::space_book::SpaceBook;
-use crate::touched::nothing_touched;
+use crate::touched::{nothing_touched, one_piece};
 use arrayvec::ArrayVec;
 use num_range::Range;
 use reg_entry::laws::painting_keeps_pieces;
@@ -108,6 +108,31 @@ struct Seams {
 }
 
 fn seams_of(book: &SpaceBook, range: &Range, status: Status) -> Seams
+    requires { book.now.space ≡ range.now.space }
+    ensures seams { AreSeams range.now status (giving_way range.now status book.now.pieces) result.low.rest result.low.value
+        result.high.rest result.high.value result.count result.few.items }
+    ensures low { result.low.value ≤ range.now.first }
+    ensures high { range.now.last ≤ result.high.value }
+    ensures top { result.high.value ≤ top_of range.now.space }
+    ensures pieces { ArePieces range.now.space book.now.pieces }
+    ensures valid { IsRange range.now }
+{
+    let around = piece_around(book, range, status);
+    match &around {
+        Some(piece) => Seams {
+            low: low_end(&around, range, status),
+            high: high_end(&around, range, status),
+            count: 1,
+            few: one_piece(piece),
+        },
+        None => collected_seams(book, range, status),
+    }
+}
+
+/// The same by going over the pieces that give way. It isn't inlined, since a function makes room for all its values when it
+/// is entered, and most entries paint inside one piece.
+#[inline(never)]
+fn collected_seams(book: &SpaceBook, range: &Range, status: Status) -> Seams
     requires { book.now.space ≡ range.now.space }
     ensures seams { AreSeams range.now status (giving_way range.now status book.now.pieces) result.low.rest result.low.value
         result.high.rest result.high.value result.count result.few.items }

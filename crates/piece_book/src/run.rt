@@ -1,6 +1,6 @@
 //! The pieces that give way to a new one over a range: those that the range meets, and available neighbours where the new
 //! one is available too.
-ghost use Rattle.std.specs.Prelude.{◌≡◌, ◌+◌, ◌^◌, ◌<◌, ◌≤◌, List, [], ◌∷◌, ◌++◌, None, nat_le, length, take};
+ghost use Rattle.std.specs.Prelude.{◌≡◌, ◌+◌, ◌^◌, ◌<◌, ◌≤◌, List, [], ◌∷◌, ◌++◌, None, nat_le, length, take, IfSome};
 ghost use Rattle.num_range.specs.Range.{IsRange};
 ghost use Rattle.reg_entry.specs.declared.piece.Piece.{Piece};
 ghost use Rattle.reg_entry.specs.Pieces.{ArePieces};
@@ -80,6 +80,25 @@ fn gives_way(piece: &Piece, range: &Range, status: Status) -> bool
         return touches(last, range.first()) && touches(range.last(), first);
     }
     range.first() <= last && first <= range.last()
+}
+
+/// The piece that alone gives way, where it has the whole range and doesn't become one with a new piece of the status. One
+/// look-up finds it.
+pub(crate) fn piece_around(book: &SpaceBook, range: &Range, status: Status) -> Option<Piece>
+    ensures alone { IfSome result (λ p. giving_way range.now status book.now.pieces ≡ p ∷ []) }
+    ensures pieces { IfSome result (λ _. ArePieces book.now.space book.now.pieces) }
+    ensures valid { IfSome result (λ _. IsRange range.now) }
+{
+    if status.is_available() {
+        return None;
+    }
+    let first = range.first();
+    let piece = book.piece_at(first)?;
+    if range.last() <= piece.range.last() {
+        Some(piece)
+    } else {
+        None
+    }
 }
 
 /// The pieces of the space that give way. They stand behind one another, so only they and their neighbours are looked at.

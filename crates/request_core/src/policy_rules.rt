@@ -84,6 +84,9 @@ fn over_cap(
 fn hundredths(amount: u128, percent: u32) -> u128
     ensures { result ≡ min (amount * percent / 100) (2 ^ 128 - 1) }
 {
+    if percent == 0 {
+        return 0;
+    }
     let percent = u128::from(percent);
     let rest = (amount % 100) * percent / 100;
     (amount / 100).saturating_mul(percent).saturating_add(rest)

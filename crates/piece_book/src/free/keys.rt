@@ -1,4 +1,4 @@
-ghost use Rattle.std.specs.Prelude.{◌≡◌, ◌+◌, ◌≤◌, ◌<◌, ◌^◌, ◌&&◌, ℕ, Bool, length, count_by, if◌then◌else◌, min, unwrap_or, Option};
+ghost use Rattle.std.specs.Prelude.{◌≡◌, ◌+◌, ◌≤◌, ◌<◌, ◌^◌, ◌&&◌, ℕ, Bool, length, count_by, if◌then◌else◌, min, unwrap_or, IsTrue, Option};
 ghost use Rattle.std.specs.List.{AllByRecursion};
 ghost use Rattle.page_dir.specs.Sorted.{Rises};
 ghost use Rattle.piece_book.specs.declared.free.key.FreeKey.{FreeKey};
@@ -29,6 +29,25 @@ fn remove(keys: &mut PageDir<FreeKey, ()>, key: &FreeKey)
     ensures room { keys.new.room ≡ keys.old.room }
 {
     keys.replace_run(key, 1, &[]);
+}
+
+/// Whether an available piece gives way to a shorter one with the same key, behind which nothing available comes: so it is
+/// where numbers are taken from its end.
+pub(super) fn keeps_its_key(before: &[Piece], after: &[Piece]) -> bool
+    requires before { AreCounted before.now }
+    requires after { AreCounted after.now }
+    ensures { IsTrue result → free_keys before.now ≡ free_keys after.now }
+{
+    let [old] = before else {
+        return false;
+    };
+    let [low, high] = after else {
+        return false;
+    };
+    old.card.status.is_available()
+        && low.card.status.is_available()
+        && !high.card.status.is_available()
+        && FreeKey::of(old) == FreeKey::of(low)
 }
 
 /// The keys of the available pieces come.

@@ -1,10 +1,9 @@
-use Rattle.std.proofs.Common.{◌≡◌, ℕ, ◌+◌, ◌-◌, ◌^◌, ◌<◌, ◌≤◌, ◌∙◌, List, map, Option, None, Some, sym, ap, subst, arith}
+use Rattle.std.proofs.Common.{◌≡◌, ℕ, ◌+◌, ◌∙◌, List, map, Option, None, Some, sym, ap, subst, arith}
 use Rattle.std.specs.Option.{option_map}
 use Rattle.num_range.specs.declared.space.Space.{Space}
 use Rattle.num_range.specs.Amount.{alignment}
-use Rattle.num_range.specs.Space.{top_of}
 use Rattle.reg_entry.specs.Blocks.{rounded_up, least_block}
-use Rattle.reg_entry.specs.Partition.{Partition, pieces_in}
+use Rattle.reg_entry.specs.Partition.{pieces_in}
 use Rattle.piece_book.specs.declared.free.key.FreeKey.{FreeKey}
 use Rattle.piece_book.specs.Free.{serves, IsIndexed, IsIndexOf, IsLeastFirst, PlainIndex}
 use Rattle.piece_book.proofs.FreeBlock.{classes_are_small, found_within, least_is_found, sizes_are_positive, top_counted}

@@ -1,4 +1,4 @@
-use Rattle.std.proofs.Common.{◌≡◌, ◌+◌, ◌≤◌, length, [], ◌∷◌, List, sym, subst}
+use Rattle.std.proofs.Common.{◌+◌, ◌≤◌, length, [], ◌∷◌, List, sym, subst}
 use Rattle.std.specs.declared.cmp.Ordering.{Ordering}
 use Rattle.page_dir.specs.Sorted.{Rises, rank}
 use Rattle.page_dir.specs.Splices.{spliced}

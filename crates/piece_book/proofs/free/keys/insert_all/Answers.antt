@@ -1,5 +1,4 @@
-use Rattle.std.proofs.Common.{◌≡◌, ℕ, ◌+◌, ◌≤◌, ◌<◌, ◌∙◌, Bool, true, length, refl, sym, subst, arith}
-use Rattle.std.specs.List.{count_by}
+use Rattle.std.proofs.Common.{◌≡◌, ◌∙◌, Bool, true, refl, sym, subst, arith}
 use Rattle.reg_entry.specs.Card.{is_available}
 use Rattle.piece_book.specs.declared.free.key.FreeKey.{FreeKey}
 use Rattle.piece_book.specs.Free.{free_keys, is_key, key_of, passing}

@@ -1,5 +1,4 @@
-use Rattle.std.proofs.Common.{◌≡◌, ◌+◌, ◌-◌, ◌≤◌, ◌<◌, ◌&&◌, Bool, nat_lt}
-use Rattle.piece_book.specs.declared.free.key.FreeKey.{FreeKey}
+use Rattle.std.proofs.Common.{◌-◌, ◌≤◌, ◌&&◌, nat_lt}
 use Rattle.piece_book.specs.Free.{serves, IsLeastFirst}
 use Rattle.piece_book.proofs.free.keys.least_first.Given as goal
 

@@ -1,4 +1,4 @@
-use Rattle.std.proofs.Common.{◌≡◌, ℕ, ◌+◌, ◌≤◌, ◌<◌, ◌∙◌, Bool, true, length, sym, subst, arith}
+use Rattle.std.proofs.Common.{◌≡◌, ◌<◌, ◌∙◌, Bool, true, sym, subst, arith}
 use Rattle.reg_entry.specs.Card.{is_available}
 use Rattle.piece_book.specs.declared.free.key.FreeKey.{FreeKey}
 use Rattle.piece_book.specs.Free.{is_key, key_of, passing}

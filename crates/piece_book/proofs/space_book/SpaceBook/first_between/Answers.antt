@@ -1,7 +1,6 @@
 use Rattle.std.proofs.Common.{◌≡◌, Option, None, Some, refl, sym, ◌∙◌, ap, arith, nat_le}
 use Rattle.std.proofs.lemmas.Bool.{cond-true, cond-false, le-leb, lt-leb}
 use Rattle.reg_entry.specs.declared.piece.Piece.{Piece}
-use Rattle.reg_entry.specs.Pieces.{piece_at}
 use Rattle.piece_book.proofs.Finding.{held_met, next_met, if_begun, held_begins}
 use Rattle.piece_book.proofs.space_book.SpaceBook.first_between.Goals as goal
 
