@@ -78,8 +78,8 @@ fn holder_line(rest: &Rest<'_>) -> Result<Holder, Malformed>
     })
 }
 
-// A function fills the room of all its values when it is entered, and requests are large. So what stands behind these verbs
-// is read by functions of their own, each of which makes the whole line.
+// A function fills the room of all its values when it is entered, and requests are large. So what stands behind each verb is
+// read by a function of its own, which makes the whole line.
 
 #[inline(never)]
 fn add_holder_line(rest: &Rest<'_>) -> Result<Line, Malformed>
@@ -191,59 +191,173 @@ fn reverse_line(rest: &Rest<'_>) -> Result<Line, Malformed>
     Ok(Line::Request(Request::SetReverse { range, servers }))
 }
 
+#[inline(never)]
+fn receive_line(rest: &Rest<'_>) -> Result<Line, Malformed>
+    ensures value { result ≡ line_of_verb verbs.Receive rest.now }
+    ensures sized { IfOk result IsSizedLine }
+    ensures dated { IfOk result IsDatedLine }
+{
+    let range = range_line(rest)?;
+    Ok(Line::Request(Request::Receive { range }))
+}
+
+#[inline(never)]
+fn reserve_line(rest: &Rest<'_>) -> Result<Line, Malformed>
+    ensures value { result ≡ line_of_verb verbs.Reserve rest.now }
+    ensures sized { IfOk result IsSizedLine }
+    ensures dated { IfOk result IsDatedLine }
+{
+    let range = range_line(rest)?;
+    Ok(Line::Request(Request::Reserve { range }))
+}
+
+#[inline(never)]
+fn unreserve_line(rest: &Rest<'_>) -> Result<Line, Malformed>
+    ensures value { result ≡ line_of_verb verbs.Unreserve rest.now }
+    ensures sized { IfOk result IsSizedLine }
+    ensures dated { IfOk result IsDatedLine }
+{
+    let range = range_line(rest)?;
+    Ok(Line::Request(Request::Unreserve { range }))
+}
+
+#[inline(never)]
+fn sub_line(rest: &Rest<'_>) -> Result<Line, Malformed>
+    ensures value { result ≡ line_of_verb verbs.Sub rest.now }
+    ensures sized { IfOk result IsSizedLine }
+    ensures dated { IfOk result IsDatedLine }
+{
+    let (range, handle) = range_and_handle(rest)?;
+    Ok(Line::Request(Request::SubAssign { range, handle }))
+}
+
+#[inline(never)]
+fn unsub_line(rest: &Rest<'_>) -> Result<Line, Malformed>
+    ensures value { result ≡ line_of_verb verbs.Unsub rest.now }
+    ensures sized { IfOk result IsSizedLine }
+    ensures dated { IfOk result IsDatedLine }
+{
+    let range = range_line(rest)?;
+    Ok(Line::Request(Request::SubReturn { range }))
+}
+
+#[inline(never)]
+fn return_line(rest: &Rest<'_>) -> Result<Line, Malformed>
+    ensures value { result ≡ line_of_verb verbs.Return rest.now }
+    ensures sized { IfOk result IsSizedLine }
+    ensures dated { IfOk result IsDatedLine }
+{
+    let (range, handle) = range_and_handle(rest)?;
+    Ok(Line::Request(Request::Return { range, handle }))
+}
+
+#[inline(never)]
+fn release_line(rest: &Rest<'_>) -> Result<Line, Malformed>
+    ensures value { result ≡ line_of_verb verbs.Release rest.now }
+    ensures sized { IfOk result IsSizedLine }
+    ensures dated { IfOk result IsDatedLine }
+{
+    let range = range_line(rest)?;
+    Ok(Line::Request(Request::Release { range }))
+}
+
+#[inline(never)]
+fn split_line(rest: &Rest<'_>) -> Result<Line, Malformed>
+    ensures value { result ≡ line_of_verb verbs.Split rest.now }
+    ensures sized { IfOk result IsSizedLine }
+    ensures dated { IfOk result IsDatedLine }
+{
+    let at = number_line(rest)?;
+    Ok(Line::Request(Request::Split { at }))
+}
+
+#[inline(never)]
+fn join_line(rest: &Rest<'_>) -> Result<Line, Malformed>
+    ensures value { result ≡ line_of_verb verbs.Join rest.now }
+    ensures sized { IfOk result IsSizedLine }
+    ensures dated { IfOk result IsDatedLine }
+{
+    let at = number_line(rest)?;
+    Ok(Line::Request(Request::Join { at }))
+}
+
+#[inline(never)]
+fn unreverse_line(rest: &Rest<'_>) -> Result<Line, Malformed>
+    ensures value { result ≡ line_of_verb verbs.Unreverse rest.now }
+    ensures sized { IfOk result IsSizedLine }
+    ensures dated { IfOk result IsDatedLine }
+{
+    let range = range_line(rest)?;
+    Ok(Line::Request(Request::ClearReverse { range }))
+}
+
+#[inline(never)]
+fn show_line(rest: &Rest<'_>) -> Result<Line, Malformed>
+    ensures value { result ≡ line_of_verb verbs.Show rest.now }
+    ensures sized { IfOk result IsSizedLine }
+    ensures dated { IfOk result IsDatedLine }
+{
+    let number = number_line(rest)?;
+    Ok(Line::Show(number))
+}
+
+#[inline(never)]
+fn due_line(rest: &Rest<'_>) -> Result<Line, Malformed>
+    ensures value { result ≡ line_of_verb verbs.Due rest.now }
+    ensures sized { IfOk result IsSizedLine }
+    ensures dated { IfOk result IsDatedLine }
+{
+    rest.end()?;
+    Ok(Line::Due)
+}
+
+#[inline(never)]
+fn new_day_line(rest: &Rest<'_>) -> Result<Line, Malformed>
+    ensures value { result ≡ line_of_verb verbs.Day rest.now }
+    ensures sized { IfOk result IsSizedLine }
+    ensures dated { IfOk result IsDatedLine }
+{
+    let day = day_line(rest)?;
+    Ok(Line::Day(day))
+}
+
+#[inline(never)]
+fn hostmaster_line(rest: &Rest<'_>) -> Result<Line, Malformed>
+    ensures value { result ≡ line_of_verb verbs.By rest.now }
+    ensures sized { IfOk result IsSizedLine }
+    ensures dated { IfOk result IsDatedLine }
+{
+    let name = by_line(rest)?;
+    Ok(Line::By(name))
+}
+
 /// What a line asks for by its verb and what stands behind it.
 fn line_of_verb(verb: Verb, rest: &Rest<'_>) -> Result<Line, Malformed>
     ensures value { result ≡ line_of_verb verb rest.now }
     ensures sized { IfOk result IsSizedLine }
     ensures dated { IfOk result IsDatedLine }
 {
-    let request = match verb {
-        Verb::Receive => Request::Receive {
-            range: range_line(rest)?,
-        },
-        Verb::Holder => return add_holder_line(rest),
-        Verb::Edit => return edit_holder_line(rest),
-        Verb::Delegate => return delegate_line(rest),
-        Verb::Reserve => Request::Reserve {
-            range: range_line(rest)?,
-        },
-        Verb::Unreserve => Request::Unreserve {
-            range: range_line(rest)?,
-        },
-        Verb::Sub => {
-            let (range, handle) = range_and_handle(rest)?;
-            Request::SubAssign { range, handle }
-        }
-        Verb::Unsub => Request::SubReturn {
-            range: range_line(rest)?,
-        },
-        Verb::Return => {
-            let (range, handle) = range_and_handle(rest)?;
-            Request::Return { range, handle }
-        }
-        Verb::Release => Request::Release {
-            range: range_line(rest)?,
-        },
-        Verb::Split => Request::Split {
-            at: number_line(rest)?,
-        },
-        Verb::Join => Request::Join {
-            at: number_line(rest)?,
-        },
-        Verb::Transfer => return transfer_line(rest),
-        Verb::Reverse => return reverse_line(rest),
-        Verb::Unreverse => Request::ClearReverse {
-            range: range_line(rest)?,
-        },
-        Verb::Show => return Ok(Line::Show(number_line(rest)?)),
-        Verb::Due => {
-            rest.end()?;
-            return Ok(Line::Due);
-        }
-        Verb::Day => return Ok(Line::Day(day_line(rest)?)),
-        Verb::By => return Ok(Line::By(by_line(rest)?)),
-    };
-    Ok(Line::Request(request))
+    match verb {
+        Verb::Receive => receive_line(rest),
+        Verb::Holder => add_holder_line(rest),
+        Verb::Edit => edit_holder_line(rest),
+        Verb::Delegate => delegate_line(rest),
+        Verb::Reserve => reserve_line(rest),
+        Verb::Unreserve => unreserve_line(rest),
+        Verb::Sub => sub_line(rest),
+        Verb::Unsub => unsub_line(rest),
+        Verb::Return => return_line(rest),
+        Verb::Release => release_line(rest),
+        Verb::Split => split_line(rest),
+        Verb::Join => join_line(rest),
+        Verb::Transfer => transfer_line(rest),
+        Verb::Reverse => reverse_line(rest),
+        Verb::Unreverse => unreverse_line(rest),
+        Verb::Show => show_line(rest),
+        Verb::Due => due_line(rest),
+        Verb::Day => new_day_line(rest),
+        Verb::By => hostmaster_line(rest),
+    }
 }
 
 fn is_comment(word: &[u8]) -> bool
