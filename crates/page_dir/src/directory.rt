@@ -15,12 +15,23 @@ use std::marker::Model;
 use std::sync::ledger::Ledger;
 
 /// Pairs in the strict order of their keys. Making one takes memory, and nothing after that does.
-#[derive(Drop)]
 pub struct PageDir<K: Ord + Copy, V: Copy> {
     spread: Spread<K, V>,
     carry: Vec<(K, V)>,
     len: u32,
     room: u32,
+}
+
+// Written out: a derived one is proved again in each function that lets a directory go, this one once.
+impl<K: Ord + Copy, V: Copy> Drop for PageDir<K, V> {
+    fn drop(self) {
+        let PageDir {
+            spread: _spread,
+            carry: _carry,
+            len: _len,
+            room: _room,
+        } = self;
+    }
 }
 
 impl<K: Ord + Copy, V: Copy> Model for PageDir<K, V> {
