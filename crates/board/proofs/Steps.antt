@@ -85,6 +85,13 @@ same_holders (Transfer range from to) day hs a b = refl
 same_holders (SetReverse range servers) day hs a b = refl
 same_holders (ClearReverse range) day hs a b = refl
 
+-- a request that splits and joins no pieces leaves them
+pub not_reshaped : (request : Request) (pool : Partition) → ((at : PlainNumber) → request ≡ Split at → ⊥) → ((at : PlainNumber) → request ≡ Join at → ⊥)
+    → reshaped request pool ≡ pool
+not_reshaped (Split at) pool a b = absurd (a at refl)
+not_reshaped (Join at) pool a b = absurd (b at refl)
+not_reshaped request pool a b = refl
+
 unpainted : (cover : Option PlainRange) (pool : Partition) → painted cover None pool ≡ pool
 unpainted None pool = refl
 unpainted (Some range) pool = refl

@@ -4,4 +4,3 @@ pub mod Starts
 pub mod Free
 pub mod Conserved
 pub mod Noted
-pub mod Painting

@@ -2,7 +2,6 @@
 ghost use Rattle.std.specs.Prelude.{◌≡◌, ℕ, ◌+◌, ◌<◌, ◌≤◌, ◌^◌, true, List, [], None, Some, length, IsSome, IfSome};
 ghost use Rattle.num_range.specs.declared.space.Space.{Space as TheSpace};
 ghost use Rattle.num_range.specs.Range.{PlainRange, size_of};
-ghost use Rattle.reg_entry.specs.declared.card.Card.{Card as TheCard};
 ghost use Rattle.reg_entry.specs.declared.holder.Holder.{Holder as TheHolder};
 ghost use Rattle.reg_entry.specs.declared.sub_card.SubCard.{SubCard as TheSubCard};
 ghost use Rattle.reg_entry.specs.declared.request.Request.TheVariants.{AddHolder, EditHolder, SubAssign, SubReturn, Return, SetReverse, ClearReverse};
@@ -11,9 +10,9 @@ ghost use Rattle.reg_entry.specs.Holders.{holder_number, edited_holder};
 ghost use Rattle.reg_entry.specs.Holdings.{gives_held, held_by, allocated_by, held_by_card, allocated_by_card};
 ghost use Rattle.reg_entry.specs.Pieces.{IsPoolRange};
 ghost use Rattle.reg_entry.specs.Ranges.{first_meeting, value_of_range, with_range};
-ghost use Rattle.reg_entry.specs.Register.{after_entry, card_of, painted, pool_after, holders_after, with_sub, subs_after, reverses_after};
+ghost use Rattle.reg_entry.specs.Register.{after_entry, card_of, pool_after, holders_after, with_sub, subs_after, reverses_after};
+ghost use Rattle.reg_laws.specs.Nobodys.{is_of_nobodys};
 ghost use Rattle.op_feed.specs.TouchedBy.{IsTouchedBy};
-ghost use Rattle.board.specs.Painting.{CanBePainted};
 ghost use Rattle.board.specs.Kept.{Rest, register_with, IsNextFor, AreHeldFor, AreHoldingsIn};
 ghost use Rattle.sub_book.specs.Book.{NoneStraddles, PlainRangeBook};
 ghost use Rattle.holding_book.specs.Book.{held_in, allocated_in, used_in, used_of, used_of_card};
@@ -34,7 +33,10 @@ use reg_laws::painting::{
     next_entries_split_delegated_pieces,
 };
 use reg_laws::subs::next_entries_fit_subs;
-use reg_laws::usage::{next_entries_change_use, next_entries_take_what_is_used, use_is_bounded};
+use reg_laws::usage::{
+    next_entries_change_use, next_entries_take_what_is_used, nobodys_numbers_change_no_holdings,
+    use_is_bounded,
+};
 use reg_laws::whole::next_entry_keeps_whole;
 use sub_book::RangeBook;
 
@@ -70,7 +72,7 @@ pub(crate) fn change_subs(subs: &mut RangeBook<SubCard>, holders: &HolderBook, e
     }
 }
 
-/// Splits or joins pieces, or paints the entry's card over its cover.
+/// Splits or joins pieces, or paints the entry's card over its cover, if there are both.
 pub(crate) fn change_pieces(pieces: &mut PieceBook, e: &Entry) -> Touched
     requires { (rest : Rest) × (subs : PlainRangeBook TheSubCard) × IsNextFor pieces.old subs e.now rest }
     ensures pieces { pieces.new.partition ≡ pool_after e.now.request e.now.cover e.now.card pieces.old.partition }
@@ -86,24 +88,14 @@ pub(crate) fn change_pieces(pieces: &mut PieceBook, e: &Entry) -> Touched
     match &e.request {
         Request::Split { at } => pieces.split(*at),
         Request::Join { at } => pieces.join(*at),
-        _ => paint(pieces, &e.cover, &e.card),
+        _ => match &e.card {
+            Some(card) => match &e.cover {
+                Some(range) => pieces.lay(range, card),
+                None => untouched(),
+            },
+            None => untouched(),
+        },
     }
-}
-
-/// Paints the card over the cover, if there are both.
-fn paint(pieces: &mut PieceBook, cover: &Option<Range>, card: &Option<Card>) -> Touched
-    requires { (range : PlainRange) (c : TheCard) → cover.now ≡ Some range → card.now ≡ Some c → CanBePainted pieces.old range c }
-    ensures pieces { pieces.new.partition ≡ painted cover.now card.now pieces.old.partition }
-    ensures room { pieces.new.room ≡ pieces.old.room }
-    ensures touched { IsTouchedBy pieces.old.partition pieces.new.partition result.before.items result.after.items }
-{
-    let Some(card) = card else {
-        return untouched();
-    };
-    let Some(range) = cover else {
-        return untouched();
-    };
-    pieces.lay(range, card)
 }
 
 fn untouched() -> Touched
@@ -113,6 +105,19 @@ fn untouched() -> Touched
     Touched {
         before: ArrayVec::new(),
         after: ArrayVec::new(),
+    }
+}
+
+/// Whether the numbers that the request is for are no holder's, before and after.
+fn is_of_nobodys(request: &Request) -> bool
+    ensures { result ≡ is_of_nobodys request.now }
+{
+    match request {
+        Request::Receive { .. }
+        | Request::Reserve { .. }
+        | Request::Unreserve { .. }
+        | Request::Release { .. } => true,
+        _ => false,
     }
 }
 
@@ -140,6 +145,10 @@ pub(crate) fn change_holdings(
     next_entries_change_use();
     next_entries_take_what_is_used();
     use_is_bounded();
+    nobodys_numbers_change_no_holdings();
+    if is_of_nobodys(&e.request) {
+        return;
+    }
     match &e.request {
         Request::AddHolder { .. } => holdings.add(),
         Request::SubAssign { range, .. } => {

@@ -105,15 +105,18 @@ impl OpWindow {
         ensures { self.new ≡ noted self.old
             (act, Block piece.now.range piece.now.card.status handle piece.now.card.day piece.now.card.until) }
     {
-        let brief = Brief::Block {
-            range: piece.range,
-            status: piece.card.status,
-            handle,
-            day: piece.card.day,
-            until: piece.card.until,
-        };
         self.serial += 1;
-        self.noted.push_back(Noted { act, brief });
+        // As one expression, which is made in its place.
+        self.noted.push_back(Noted {
+            act,
+            brief: Brief::Block {
+                range: piece.range,
+                status: piece.card.status,
+                handle,
+                day: piece.card.day,
+                until: piece.card.until,
+            },
+        });
     }
 
     /// Notes one operation more, of a sub. Where there is no room for it the first one goes.
@@ -121,9 +124,11 @@ impl OpWindow {
         requires { self.old.serial + 1 < 2 ^ 64 }
         ensures { self.new ≡ noted self.old (act, Sub range handle day) }
     {
-        let brief = Brief::Sub { range, handle, day };
         self.serial += 1;
-        self.noted.push_back(Noted { act, brief });
+        self.noted.push_back(Noted {
+            act,
+            brief: Brief::Sub { range, handle, day },
+        });
     }
 
     /// Notes one operation more, of a cut. Where there is no room for it the first one goes.

@@ -14,7 +14,7 @@ use Rattle.reg_entry.specs.Card.{is_available}
 use Rattle.reg_entry.specs.Pieces.{laid, RisesFrom, IsSettled, IsCard, IsInOnePieceOrNone, AllPiecesOf, ArePieces}
 use Rattle.piece_book.specs.GivesWay.{both_available, reach, gives_way, giving_way, first_of, last_from, last_of, ending_at, starting_at, rest_below, new_first, new_card, rest_above, new_last, new_line, line_of}
 use Rattle.piece_book.specs.Exchange.{IsExchange}
-use Rattle.piece_book.specs.Run.{AreSeams}
+use Rattle.piece_book.specs.Run.{AreSeams, IsBuilt, line_from}
 use Rattle.piece_book.specs.Touched.{IsTouched}
 use Rattle.piece_book.proofs.GivingWay.{LiesAbove, parts, reach_small, way_given, few_give_way}
 use Rattle.piece_book.proofs.Laid.{laid_between, last_gives}
@@ -416,21 +416,10 @@ laid_adds_two ps r c h ordered = of_run (giving_way r c.status ps) refl
         let two = rest_is_one high in
         omega (arith, all, one, two)
 
--- the line that is built from the seams
-abbrev line_from : PlainRange → Card → Option Piece → ℕ → Option Piece → ℕ → List Piece
-line_from r c low first high last =
-    option_to_list low ++ (record { range = record { space = r.space; first = first; last = last }; card = c } ∷ option_to_list high)
-
--- the run that was noted, and the line that was built
-pub record IsBuilt (r : PlainRange) (c : Card) (ps gone come : List Piece) : Type 0 where
-  pub gone_is : gone ≡ giving_way r c.status ps
-  pub come_is : come ≡ line_of r c ps
-
-pub built : (ps : List Piece) (r q : PlainRange) (c : Card) (low high : Option Piece) (first last count : ℕ) (few come : List Piece)
+pub built : (ps : List Piece) (r : PlainRange) (c : Card) (low high : Option Piece) (first last count : ℕ) (few come : List Piece)
     → ArePieces r.space ps → r.first ≤ r.last → IsCard c → IsInOnePieceOrNone ps r → AreSeams r c.status (giving_way r c.status ps) low first high last count few
-    → q ≡ record { space = r.space; first = first; last = last } → come ≡ option_to_list low ++ (record { range = q; card = c } ∷ option_to_list high)
-    → IsBuilt r c ps few come
-built ps r q c low high first last count few come h ordered plain one seams e line =
+    → come ≡ line_from r c low first high last → IsBuilt r c ps few come
+built ps r c low high first last count few come h ordered plain one seams line =
     let s : Status = c.status in
     let run : List Piece = giving_way r s ps in
     let low' : Option Piece = rest_below r s (first_of run) in
@@ -438,7 +427,6 @@ built ps r q c low high first last count few come h ordered plain one seams e li
     record {
       gone_is = seams.few_is ∙ take_all 3 run (few_give_way 0 r s ps ordered h.rises one);
       come_is = line
-          ∙ ap (λ (x : PlainRange). option_to_list low ++ (record { range = x; card = c } ∷ option_to_list high)) e
           ∙ ap (λ (o : Option Piece). line_from r c o first high last) seams.low_is
           ∙ ap (λ (n : ℕ). line_from r c low' n high last) seams.first_is
           ∙ ap (λ (o : Option Piece). line_from r c low' (new_first r s (first_of run)) o last) seams.high_is

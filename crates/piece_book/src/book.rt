@@ -13,9 +13,10 @@ ghost use Rattle.piece_book.specs.Pairs.{pieces_of_pairs};
 ghost use Rattle.piece_book.specs.Touched.{IsTouched};
 
 use crate::free::FreeIndex;
-use crate::painting::{count_after, painted};
+use crate::painting::{count_after, paint};
 use crate::parting::{made_one, parted};
 use crate::space_book::SpaceBook;
+use crate::touched::nothing_touched;
 use crate::{Part, PieceWalk};
 use num_range::{Number, Range, Space};
 use page_dir::PageDir;
@@ -233,7 +234,8 @@ impl PieceBook {
             result.before.items result.after.items }
     {
         let space = range.space();
-        let touched = painted(self.in_space(space), range, card);
+        let mut touched = nothing_touched();
+        paint(self.in_space(space), range, card, &mut touched);
         self.exchange(space, &touched);
         touched
     }

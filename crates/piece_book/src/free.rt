@@ -1,5 +1,5 @@
 //! The index of free blocks: of each available piece, how large an aligned block it has room for, and where the piece begins.
-ghost use Rattle.std.specs.Prelude.{◌≡◌, ◌+◌, ◌≤◌, ◌<◌, ◌^◌, IfOk, []};
+ghost use Rattle.std.specs.Prelude.{◌≡◌, ◌+◌, ◌≤◌, ◌<◌, ◌^◌, IfOk};
 ghost use Rattle.reg_entry.specs.Blocks.{least_block};
 ghost use Rattle.reg_entry.specs.Partition.{empty_partition, pieces_in};
 ghost use Rattle.piece_book.specs.Free.{IsBlockSize, IsPoolChange, IsIndexed, IsIndexOf};

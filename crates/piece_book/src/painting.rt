@@ -1,5 +1,5 @@
 //! Painting a card over a range of a space: which pieces give way, and what comes in their place.
-ghost use Rattle.std.specs.Prelude.{[], ◌∷◌, IsTrue, ◌≡◌, ◌+◌, ◌≤◌, ◌++◌, length, option_to_list};
+ghost use Rattle.std.specs.Prelude.{[], ◌∷◌, IsTrue, ◌≡◌, ◌+◌, ◌≤◌, length, option_to_list};
 ghost use Rattle.std.specs.Option.{ForSome};
 ghost use Rattle.num_range.specs.Range.{IsRange};
 ghost use Rattle.num_range.specs.Space.{top_of};
@@ -8,12 +8,11 @@ ghost use Rattle.reg_entry.specs.declared.card.Card.{Card};
 ghost use Rattle.reg_entry.specs.declared.piece.Piece.{Piece};
 ghost use Rattle.piece_book.specs.Exchange.{IsExchange};
 ghost use Rattle.piece_book.specs.GivesWay.{giving_way, new_first, new_last, rest_above, rest_below};
-ghost use Rattle.piece_book.specs.Run.{AreSeams};
+ghost use Rattle.piece_book.specs.Run.{AreSeams, IsBuilt, line_from};
 ghost use Rattle.piece_book.specs.Touched.{IsTouched};
 
 use crate::run::{both_available, giving_way, piece_around};
 use crate::space_book::SpaceBook;
-use crate::touched::{nothing_touched, one_piece};
 use arrayvec::ArrayVec;
 use num_range::Range;
 use reg_entry::laws::painting_keeps_pieces;
@@ -117,31 +116,6 @@ fn seams_of(book: &SpaceBook, range: &Range, status: Status) -> Seams
     ensures pieces { ArePieces range.now.space book.now.pieces }
     ensures valid { IsRange range.now }
 {
-    let around = piece_around(book, range, status);
-    match &around {
-        Some(piece) => Seams {
-            low: low_end(&around, range, status),
-            high: high_end(&around, range, status),
-            count: 1,
-            few: one_piece(piece),
-        },
-        None => collected_seams(book, range, status),
-    }
-}
-
-/// The same by going over the pieces that give way. It isn't inlined, since a function makes room for all its values when it
-/// is entered, and most entries paint inside one piece.
-#[inline(never)]
-fn collected_seams(book: &SpaceBook, range: &Range, status: Status) -> Seams
-    requires { book.now.space ≡ range.now.space }
-    ensures seams { AreSeams range.now status (giving_way range.now status book.now.pieces) result.low.rest result.low.value
-        result.high.rest result.high.value result.count result.few.items }
-    ensures low { result.low.value ≤ range.now.first }
-    ensures high { range.now.last ≤ result.high.value }
-    ensures top { result.high.value ≤ top_of range.now.space }
-    ensures pieces { ArePieces range.now.space book.now.pieces }
-    ensures valid { IsRange range.now }
-{
     let run = giving_way(book, range, status);
     Seams {
         low: low_end(&run.first, range, status),
@@ -172,19 +146,24 @@ pub(crate) fn count_after(book: &SpaceBook, range: &Range, status: Status) -> u3
     book.len() - seams.count + new
 }
 
-/// The new piece between what is left of those that it cuts.
-fn lined_up(low: &Option<Piece>, new: &Piece, high: &Option<Piece>) -> ArrayVec<Piece, 3>
-    ensures { result.items ≡ option_to_list low.now ++ (new.now ∷ option_to_list high.now) }
+/// Lines up what comes: the new piece between what is left of those that it cuts.
+fn line_up(low: &End, high: &End, range: &Range, card: &Card, line: &mut ArrayVec<Piece, 3>)
+    requires empty { line.old.items ≡ [] }
+    requires ordered { low.now.value ≤ high.now.value }
+    requires top { high.now.value ≤ top_of range.now.space }
+    ensures { line.new.items ≡ line_from range.now card.now low.now.rest low.now.value high.now.rest high.now.value }
 {
-    let mut line = ArrayVec::new();
-    if let Some(low) = low {
-        line.push(*low);
+    let new = Piece {
+        range: Range::between(range.space(), low.value, high.value),
+        card: *card,
+    };
+    if let Some(rest) = &low.rest {
+        line.push(*rest);
     }
-    line.push(*new);
-    if let Some(high) = high {
-        line.push(*high);
+    line.push(new);
+    if let Some(rest) = &high.rest {
+        line.push(*rest);
     }
-    line
 }
 
 /// Whether one piece alone stands there before and after.
@@ -195,26 +174,63 @@ fn is_one_for_one(run: &[Piece], line: &[Piece]) -> bool
     run.len() == 1 && line.len() == 1 && run[0] == line[0]
 }
 
-/// What laying the card over the range touches.
-pub(crate) fn painted(book: &SpaceBook, range: &Range, card: &Card) -> Touched
+/// Notes the pieces that give way and what comes in their place. One look-up finds the piece that alone gives way, inside which
+/// most entries paint.
+fn note_painting(book: &SpaceBook, range: &Range, card: &Card, touched: &mut Touched)
+    requires space { book.now.space ≡ range.now.space }
+    requires one { IsInOnePieceOrNone book.now.pieces range.now }
+    requires plain { IsCard card.now }
+    requires before { touched.old.before.items ≡ [] }
+    requires after { touched.old.after.items ≡ [] }
+    ensures built { IsBuilt range.now card.now book.now.pieces touched.new.before.items touched.new.after.items }
+    ensures pieces { ArePieces range.now.space book.now.pieces }
+    ensures valid { IsRange range.now }
+{
+    let around = piece_around(book, range, card.status);
+    match &around {
+        Some(piece) => {
+            let low = low_end(&around, range, card.status);
+            let high = high_end(&around, range, card.status);
+            touched.before.push(*piece);
+            line_up(&low, &high, range, card, &mut touched.after);
+        }
+        None => note_seams(book, range, card, touched),
+    }
+}
+
+/// The same by going over the pieces that give way. It isn't inlined, since a function makes room for all its values when it is
+/// entered.
+#[inline(never)]
+fn note_seams(book: &SpaceBook, range: &Range, card: &Card, touched: &mut Touched)
+    requires space { book.now.space ≡ range.now.space }
+    requires one { IsInOnePieceOrNone book.now.pieces range.now }
+    requires plain { IsCard card.now }
+    requires after { touched.old.after.items ≡ [] }
+    ensures built { IsBuilt range.now card.now book.now.pieces touched.new.before.items touched.new.after.items }
+    ensures pieces { ArePieces range.now.space book.now.pieces }
+    ensures valid { IsRange range.now }
+{
+    let seams = seams_of(book, range, card.status);
+    line_up(&seams.low, &seams.high, range, card, &mut touched.after);
+    touched.before = seams.few;
+}
+
+/// Notes what laying the card over the range touches.
+pub(crate) fn paint(book: &SpaceBook, range: &Range, card: &Card, touched: &mut Touched)
     requires space { book.now.space ≡ range.now.space }
     requires one { IsInOnePieceOrNone book.now.pieces range.now }
     requires pooled { IsPoolRange range.now }
     requires plain { IsCard card.now }
-    ensures exchange { IsExchange result.before.items result.after.items book.now.pieces (laid book.now.pieces range.now card.now) }
+    requires before { touched.old.before.items ≡ [] }
+    requires after { touched.old.after.items ≡ [] }
+    ensures exchange { IsExchange touched.new.before.items touched.new.after.items book.now.pieces (laid book.now.pieces range.now card.now) }
     ensures pieces { ArePieces range.now.space (laid book.now.pieces range.now card.now) }
-    ensures touched { IsTouched book.now.pieces (laid book.now.pieces range.now card.now) result.before.items result.after.items }
+    ensures touched { IsTouched book.now.pieces (laid book.now.pieces range.now card.now) touched.new.before.items touched.new.after.items }
 {
     painting_keeps_pieces();
-    let seams = seams_of(book, range, card.status);
-    let new = Piece {
-        range: Range::between(range.space(), seams.low.value, seams.high.value),
-        card: *card,
-    };
-    let after = lined_up(&seams.low.rest, &new, &seams.high.rest);
-    let before = seams.few;
-    if is_one_for_one(&before, &after) {
-        return nothing_touched();
+    note_painting(book, range, card, touched);
+    if is_one_for_one(&touched.before, &touched.after) {
+        touched.before.clear();
+        touched.after.clear();
     }
-    Touched { before, after }
 }

@@ -1,6 +1,6 @@
 //! The pieces that give way to a new one over a range: those that the range meets, and available neighbours where the new
 //! one is available too.
-ghost use Rattle.std.specs.Prelude.{◌≡◌, ◌+◌, ◌^◌, ◌<◌, ◌≤◌, List, [], ◌∷◌, ◌++◌, None, nat_le, length, take, IfSome};
+ghost use Rattle.std.specs.Prelude.{◌≡◌, ◌+◌, ◌^◌, ◌<◌, List, [], ◌∷◌, ◌++◌, None, nat_le, take, IfSome};
 ghost use Rattle.num_range.specs.Range.{IsRange};
 ghost use Rattle.reg_entry.specs.declared.piece.Piece.{Piece};
 ghost use Rattle.reg_entry.specs.Pieces.{ArePieces};

@@ -1,4 +1,4 @@
-ghost use Rattle.std.specs.Prelude.{◌≡◌, ℕ, ◌+◌, ◌-◌, ◌^◌, ◌<◌, ◌≤◌, ◌&&◌, nat_le, List, [], length, drop, find, map, IfOk, IfSome};
+ghost use Rattle.std.specs.Prelude.{◌≡◌, ◌+◌, ◌-◌, ◌^◌, ◌<◌, ◌≤◌, ◌&&◌, nat_le, [], length, drop, find, map, IfOk, IfSome};
 ghost use Rattle.std.specs.List.{slice_get};
 ghost use Rattle.std.specs.Ordering.{nat_cmp};
 ghost use Rattle.num_range.specs.declared.space.Space.{Space};
@@ -12,7 +12,7 @@ ghost use Rattle.page_dir.specs.Sorted.{last_at_most};
 ghost use Rattle.piece_book.specs.declared.part.Part.{Part};
 ghost use Rattle.piece_book.specs.Exchange.{begun_below, exchanged, place_of, start_of};
 ghost use Rattle.piece_book.specs.GivesWay.{giving_way};
-ghost use Rattle.piece_book.specs.Pairs.{AreOfRanges, pair_of_piece, piece_of_pair, pieces_of_pairs};
+ghost use Rattle.piece_book.specs.Pairs.{pair_of_piece, piece_of_pair, pieces_of_pairs};
 ghost use Rattle.piece_book.specs.SpaceBook.{last_begun};
 
 use crate::sums::status_sum;

@@ -30,3 +30,4 @@ pub mod ReversesFitting
 pub mod LookedUp
 pub mod RangeSums
 pub mod UseFacts
+pub mod Nobodys

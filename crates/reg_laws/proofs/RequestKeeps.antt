@@ -54,7 +54,7 @@ free_is_kept_back Allocated e = absurd (both_ways false refl e)
 free_is_kept_back Assigned e = absurd (both_ways false refl e)
 
 -- a range of a piece of this status
-of_status : (r : Register) (range : PlainRange) (status : Status) (p : Piece) → wrong_status r (first_number range) (is_status status) ≡ None
+pub of_status : (r : Register) (range : PlainRange) (status : Status) (p : Piece) → wrong_status r (first_number range) (is_status status) ≡ None
     → piece_of r.pool (first_number range) ≡ Some p → is_delegated status ≡ false → is_delegated p.card.status ≡ false
 of_status r range status p e is free =
     ap is_delegated (same_status-true p.card.status status (right_status r (first_number range) (is_status status) p e is)) ∙ free

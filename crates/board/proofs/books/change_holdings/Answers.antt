@@ -1,7 +1,8 @@
-use Rattle.std.proofs.Common.{◌≡◌, ℕ, ◌+◌, ◌<◌, ◌≤◌, ◌^◌, None, Option, IsSome, false, refl, sym, ◌∙◌, ap, subst, arith, length}
+use Rattle.std.proofs.Common.{◌≡◌, ℕ, ◌+◌, ◌<◌, ◌≤◌, ◌^◌, None, Option, IsSome, true, false, refl, sym, ◌∙◌, ap, subst, arith, length}
 use Rattle.std.proofs.lemmas.Bool.{both_ways}
 use Rattle.num_range.specs.Range.{PlainRange}
 use Rattle.reg_entry.specs.declared.card.Card.{Card}
+use Rattle.reg_entry.specs.declared.holder.Holder.{Holder}
 use Rattle.reg_entry.specs.declared.request.Request.{Request}
 use Rattle.reg_entry.specs.declared.request.Request.TheVariants.{AddHolder, SubAssign, SubReturn}
 use Rattle.reg_entry.specs.Covers.{first_number}
@@ -11,6 +12,7 @@ use Rattle.reg_entry.specs.Register.{Register, after_entry, card_of, holders_aft
 use Rattle.reg_entry.specs.Sums.{held, allocated, used}
 use Rattle.reg_entry.specs.Whole.{IsWholeRegister}
 use Rattle.reg_entry.specs.Holdings.{held_by, allocated_by, held_by_card, allocated_by_card}
+use Rattle.reg_laws.specs.Nobodys.{is_of_nobodys}
 use Rattle.reg_laws.specs.Use.{used_by}
 use Rattle.holding_book.specs.Book.{held_in, allocated_in, used_in, used_of, used_of_card}
 use Rattle.board.specs.Kept.{register_with, AreHoldingsIn}
@@ -130,6 +132,26 @@ exchange-requires c =
   where
     below_part : {a h : ℕ} → a ≤ h → h < 2 ^ 127 → a < 2 ^ 127
     below_part p q = omega arith
+
+pub returns-then-is_of_nobodys-clause-holdings : goal.returns-then-is_of_nobodys-clause-holdings
+returns-then-is_of_nobodys-clause-holdings c =
+    λ rest h.
+    let r : Register = register_with rest c.args.pieces.now c.args.subs.now in
+    let e : PlainEntry = entry_in c.e.inside in
+    let next : IsNextEntry r e = subst (λ (x : PlainEntry). IsNextEntry r x) (sym c.e.view_is) h.next.next in
+    let whole : IsWholeRegister r = h.next.whole in
+    let nobodys : is_of_nobodys e.request ≡ true = sym c.is_of_nobodys.ensures ∙ c.if-is_of_nobodys.true in
+    let same = c.nobodys_numbers_change_no_holdings.ensures in
+    subst (λ (x : PlainEntry). AreHoldingsIn (after_entry r x) c.args.holdings.now) c.e.view_is
+    (unchanged_holdings r e c.args.holdings.now c.args.holdings.now h.holdings
+    (λ holder space. same.held r e holder space whole next nobodys)
+    (λ holder space. same.allocated r e holder space whole next nobodys)
+    (λ holder space. same.used r e holder space whole next nobodys)
+    (h.holdings.count ∙ same_length e.request e.day rest.holders.holders (adds_none e.request nobodys))
+    (λ holder space. refl) (λ holder space. refl) (λ holder space. refl))
+  where
+    adds_none : (request : Request) → is_of_nobodys request ≡ true → (holder : Holder) → request ≡ AddHolder holder → ⊥
+    adds_none request is holder e = both_ways false refl (subst (λ (q : Request). is_of_nobodys q ≡ true) e is)
 
 pub returns-in-AddHolder-clause-holdings : goal.returns-in-AddHolder-clause-holdings
 returns-in-AddHolder-clause-holdings c =

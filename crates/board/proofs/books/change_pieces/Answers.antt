@@ -1,11 +1,12 @@
-use Rattle.std.proofs.Common.{◌≡◌, None, refl, sym, subst}
+use Rattle.std.proofs.Common.{◌≡◌, None, refl, sym, ◌∙◌, ap, subst}
 use Rattle.reg_entry.specs.declared.request.Request.TheVariants.{Split}
 use Rattle.reg_entry.specs.Entry.{PlainEntry}
 use Rattle.reg_entry.specs.Next.{IsNextEntry}
-use Rattle.reg_entry.specs.Register.{Register}
+use Rattle.reg_entry.specs.Register.{Register, pool_after}
 use Rattle.reg_entry.specs.Whole.{IsWholeRegister}
 use Rattle.board.specs.Kept.{register_with}
-use Rattle.board.proofs.Steps.{entry_in, bare_card, split_place, split_room, paint_room}
+use Rattle.board.proofs.Touching.{touched_by, untouched_by}
+use Rattle.board.proofs.Steps.{entry_in, bare_card, not_reshaped, pool_unpainted, pool_painted, split_place, split_room, paint_room}
 use Rattle.board.proofs.books.change_pieces.Goals as goal
 
 pub split-requires-clause-place : goal.split-requires-clause-place
@@ -32,17 +33,45 @@ join-requires c =
     let next : IsNextEntry r e = subst (λ (x : PlainEntry). IsNextEntry r x) (sym c.e.view_is) c.requires.2.next in
     c.next_entries_join_equal_pieces.ensures r e c.in-Join.at c.requires.2.whole next c.in-Join.is
 
-pub paint-requires : goal.paint-requires
-paint-requires c =
+pub lay-requires : goal.lay-requires
+lay-requires c =
     let r : Register = register_with c.requires.0 c.args.pieces.now c.requires.1 in
     let e : PlainEntry = entry_in c.e.inside in
     let next : IsNextEntry r e = subst (λ (x : PlainEntry). IsNextEntry r x) (sym c.e.view_is) c.requires.2.next in
     let whole : IsWholeRegister r = c.requires.2.whole in
     let paint = c.next_entries_can_be_painted.ensures in
-    λ range card cover is. record {
-      one = paint.one r e range card whole next cover is;
-      pooled = paint.pooled r e range card whole next cover is;
-      plain = paint.plain r e card whole next is;
-      room = paint_room r e range card c.args.pieces.now.room (c.next_entry_keeps_whole.ensures r e whole next) cover is
-          (paint.alone r e card whole next is) c.requires.2.room;
+    record {
+      one = paint.one r e c.in-Some-cover.range c.in-Some.card whole next c.in-Some-cover.is c.in-Some.is;
+      pooled = paint.pooled r e c.in-Some-cover.range c.in-Some.card whole next c.in-Some-cover.is c.in-Some.is;
+      plain = paint.plain r e c.in-Some.card whole next c.in-Some.is;
+      room = paint_room r e c.in-Some-cover.range c.in-Some.card c.args.pieces.now.room (c.next_entry_keeps_whole.ensures r e whole next) c.in-Some-cover.is c.in-Some.is
+          (paint.alone r e c.in-Some.card whole next c.in-Some.is) c.requires.2.room;
+    }
+
+
+pub returns-in-Some-cover : goal.returns-in-Some-cover
+returns-in-Some-cover c =
+    let r : Register = register_with c.requires.0 c.args.pieces.now c.requires.1 in
+    let e : PlainEntry = entry_in c.e.inside in
+    let next : IsNextEntry r e = subst (λ (x : PlainEntry). IsNextEntry r x) (sym c.e.view_is) c.requires.2.next in
+    let alone = c.next_entries_can_be_painted.ensures.alone r e c.in-Some.card c.requires.2.whole next c.in-Some.is in
+    record {
+      pieces = c.lay.ensures.pieces
+          ∙ sym (pool_painted e.request e.cover e.card c.args.pieces.now.partition c.in-Some-cover.range c.in-Some.card c.in-Some-cover.is c.in-Some.is alone)
+          ∙ ap (λ (x : PlainEntry). pool_after x.request x.cover x.card c.args.pieces.now.partition) c.e.view_is;
+      room = c.lay.ensures.room;
+      touched = touched_by c.args.pieces.now.partition c.lay.new.self.partition c.in-Some-cover.range.space _ c.lay.result.before.items c.lay.result.after.items
+          c.lay.ensures.pieces c.lay.ensures.touched;
+    }
+
+pub returns-in-None : goal.returns-in-None
+returns-in-None c =
+    let e : PlainEntry = entry_in c.e.inside in
+    record {
+      pieces = sym (pool_unpainted e.request e.cover e.card c.args.pieces.now.partition c.in-None.is
+          ∙ not_reshaped e.request c.args.pieces.now.partition c.in_default.not-Split c.in_default.not-Join)
+          ∙ ap (λ (x : PlainEntry). pool_after x.request x.cover x.card c.args.pieces.now.partition) c.e.view_is;
+      room = refl;
+      touched = untouched_by c.args.pieces.now.partition c.untouched-in-None.result.before.items c.untouched-in-None.result.after.items
+          c.untouched-in-None.ensures.before c.untouched-in-None.ensures.after;
     }

@@ -1,31 +1,39 @@
-use Rattle.std.proofs.Common.{◌≡◌, ◌+◌, ◌≤◌, List, [], ◌∷◌, Option, Some, ◌∙◌, ap, subst}
-use Rattle.std.specs.Option.{IfSome}
-use Rattle.num_range.specs.Range.{PlainRange}
-use Rattle.reg_entry.specs.declared.card.Status.{Status}
+use Rattle.std.proofs.Common.{◌≡◌, ◌+◌, ◌≤◌, Option, Some, sym, ◌∙◌, ap, subst}
+use Rattle.num_range.specs.declared.space.Space.{Space}
 use Rattle.reg_entry.specs.declared.piece.Piece.{Piece}
 use Rattle.reg_entry.specs.Pieces.{ArePieces}
-use Rattle.piece_book.specs.GivesWay.{giving_way, first_of, last_of}
+use Rattle.piece_book.specs.GivesWay.{rest_below, new_first, rest_above, new_last}
 use Rattle.piece_book.proofs.Painted.{first_near, last_near, last_space}
 use Rattle.piece_book.proofs.painting.seams_of.Goals as goal
 
-of_found : (P : Piece → Type 0) (found : Option Piece) (p : Piece) → IfSome found P → found ≡ Some p → P p
-of_found P found p h e = subst (λ (o : Option Piece). IfSome o P) e h
-
-abbrev IsAlone : PlainRange → Status → List Piece → Piece → Type 0
-IsAlone r s ps p = giving_way r s ps ≡ p ∷ []
-
 pub low_end-requires : goal.low_end-requires
 low_end-requires c =
-    let near : (p : Piece) → c.piece_around-around.result ≡ Some p → c.args.range.now.first ≤ p.range.last + 1 =
-    λ p e. first_near c.args.range.now c.args.status c.args.book.now.pieces p (ap first_of (of_found (IsAlone c.args.range.now c.args.status c.args.book.now.pieces) _ p c.piece_around-around.ensures.alone e)) in
+    let near : (p : Piece) → c.giving_way-run.result.first ≡ Some p → c.args.range.now.first ≤ p.range.last + 1 =
+    λ p e. first_near c.args.range.now c.args.status c.args.book.now.pieces p (sym c.giving_way-run.ensures.run.first_is ∙ e) in
     record { near = near }
 
 pub high_end-requires-clause-near : goal.high_end-requires-clause-near
-high_end-requires-clause-near c = λ p e. last_near c.args.range.now c.args.status c.args.book.now.pieces p (ap last_of (of_found (IsAlone c.args.range.now c.args.status c.args.book.now.pieces) _ p c.piece_around-around.ensures.alone e))
+high_end-requires-clause-near c = λ p e. last_near c.args.range.now c.args.status c.args.book.now.pieces p (sym c.giving_way-run.ensures.run.last_is ∙ e)
 
 pub high_end-requires-clause-space : goal.high_end-requires-clause-space
 high_end-requires-clause-space c =
     λ p e.
-    last_space c.args.book.now.space c.args.range.now c.args.status c.args.book.now.pieces p (of_found (λ _. ArePieces c.args.book.now.space c.args.book.now.pieces) _ p c.piece_around-around.ensures.pieces e).each
-    (ap last_of (of_found (IsAlone c.args.range.now c.args.status c.args.book.now.pieces) _ p c.piece_around-around.ensures.alone e))
+    last_space c.args.book.now.space c.args.range.now c.args.status c.args.book.now.pieces p c.giving_way-run.ensures.pieces.each (sym c.giving_way-run.ensures.run.last_is ∙ e)
     ∙ c.requires
+
+pub returns-clause-seams : goal.returns-clause-seams
+returns-clause-seams c =
+    let r = c.args.range.now in
+    let s = c.args.status in
+    let run = c.giving_way-run.ensures.run in
+    record {
+      low_is = c.low_end.ensures.rest ∙ ap (λ (o : Option Piece). rest_below r s o) run.first_is;
+      first_is = c.low_end.ensures.value ∙ ap (λ (o : Option Piece). new_first r s o) run.first_is;
+      high_is = c.high_end.ensures.rest ∙ ap (λ (o : Option Piece). rest_above r s o) run.last_is;
+      last_is = c.high_end.ensures.value ∙ ap (λ (o : Option Piece). new_last r s o) run.last_is;
+      count_is = run.count_is;
+      few_is = run.few_is;
+    }
+
+pub returns-clause-pieces : goal.returns-clause-pieces
+returns-clause-pieces c = subst (λ (x : Space). ArePieces x c.args.book.now.pieces) c.requires c.giving_way-run.ensures.pieces
