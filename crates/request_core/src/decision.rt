@@ -54,17 +54,18 @@ pub fn decide_on_day(
     board.is_whole();
     policy.is_well_formed();
     request.has_ranges();
-    match board.late_refusal(request, proposal.day, &proposal.cover, &proposal.card) {
-        Some(refusal) => Reply::Refused(refusal),
-        None => Reply::Accepted(Entry {
-            seq: proposal.seq,
-            day: proposal.day,
-            who: *who,
-            request: *request,
-            cover: proposal.cover,
-            card: proposal.card,
-        }),
+    let late = board.late_refusal(request, proposal.day, &proposal.cover, &proposal.card);
+    if let Some(refusal) = late {
+        return Reply::Refused(refusal);
     }
+    Reply::Accepted(Entry {
+        seq: proposal.seq,
+        day: proposal.day,
+        who: *who,
+        request: *request,
+        cover: proposal.cover,
+        card: proposal.card,
+    })
 }
 
 /// Decides a request under a policy, on a day of the clock. What is accepted may come next; where it delegates numbers it

@@ -48,7 +48,6 @@ lay-requires c =
           (paint.alone r e c.in-Some.card whole next c.in-Some.is) c.requires.2.room;
     }
 
-
 pub returns-in-Some-cover : goal.returns-in-Some-cover
 returns-in-Some-cover c =
     let r : Register = register_with c.requires.0 c.args.pieces.now c.requires.1 in

@@ -8,18 +8,18 @@ use Rattle.reg_entry.specs.Next.{IsNextEntry}
 use Rattle.request_core.proofs.Refusals.{late_is, accepted_is, refused_late_is, of_accepted}
 use Rattle.request_core.proofs.decision.decide_on_day.Goals as goal
 
-pub returns-in-None-clause-decision : goal.returns-in-None-clause-decision
-returns-in-None-clause-decision c =
+pub returns-clause-decision : goal.returns-clause-decision
+returns-clause-decision c =
     let x = c.propose-proposal.result in
     let e : PlainEntry = record { seq = x.seq; day = x.day; who = c.args.who.now; request = c.args.request.now; cover = x.cover; card = x.card } in
     sym (accepted_is c.args.board.now.register c.args.policy.now c.args.day c.args.who.now c.args.request.now e
-    c.requires.unopposed (c.propose-proposal.ensures.entry c.args.who.now) (sym c.late_refusal.ensures ∙ c.in-None.is))
+    c.requires.unopposed (c.propose-proposal.ensures.entry c.args.who.now) (sym c.late_refusal-late.ensures ∙ c.in_default.is))
 
-pub returns-in-None-clause-accepted : goal.returns-in-None-clause-accepted
-returns-in-None-clause-accepted c none = ap (λ (e : PlainEntry). Accepted e) (c.propose-proposal.ensures.entry c.args.who.now)
+pub returns-clause-accepted : goal.returns-clause-accepted
+returns-clause-accepted c none = ap (λ (e : PlainEntry). Accepted e) (c.propose-proposal.ensures.entry c.args.who.now)
 
-pub returns-in-None-clause-next : goal.returns-in-None-clause-next
-returns-in-None-clause-next c =
+pub returns-clause-next : goal.returns-clause-next
+returns-clause-next c =
     let r = c.args.board.now.register in
     let whole = c.is_whole.ensures.whole in
     let x = c.propose-proposal.result in
@@ -28,10 +28,10 @@ returns-in-None-clause-next c =
     (c.accepted_may_come_next.ensures.next r c.args.policy.now c.args.day c.args.who.now c.args.request.now
     whole.pieces whole.days.1 c.is_well_formed.ensures.rows c.has_ranges.ensures)
     (accepted_is r c.args.policy.now c.args.day c.args.who.now c.args.request.now e
-    c.requires.unopposed (c.propose-proposal.ensures.entry c.args.who.now) (sym c.late_refusal.ensures ∙ c.in-None.is))
+    c.requires.unopposed (c.propose-proposal.ensures.entry c.args.who.now) (sym c.late_refusal-late.ensures ∙ c.in_default.is))
 
-pub returns-in-None-clause-least : goal.returns-in-None-clause-least
-returns-in-None-clause-least c =
+pub returns-clause-least : goal.returns-clause-least
+returns-clause-least c =
     let r = c.args.board.now.register in
     let whole = c.is_whole.ensures.whole in
     let x = c.propose-proposal.result in
@@ -40,14 +40,14 @@ returns-in-None-clause-least c =
     (c.accepted_may_come_next.ensures.least r c.args.policy.now c.args.day c.args.who.now c.args.request.now
     whole.pieces whole.days.1 c.is_well_formed.ensures.rows c.has_ranges.ensures)
     (accepted_is r c.args.policy.now c.args.day c.args.who.now c.args.request.now e
-    c.requires.unopposed (c.propose-proposal.ensures.entry c.args.who.now) (sym c.late_refusal.ensures ∙ c.in-None.is))
+    c.requires.unopposed (c.propose-proposal.ensures.entry c.args.who.now) (sym c.late_refusal-late.ensures ∙ c.in_default.is))
 
 pub returns-in-Some-clause-decision : goal.returns-in-Some-clause-decision
 returns-in-Some-clause-decision c =
     let x = c.propose-proposal.result in
     let e : PlainEntry = record { seq = x.seq; day = x.day; who = c.args.who.now; request = c.args.request.now; cover = x.cover; card = x.card } in
     sym (refused_late_is c.args.board.now.register c.args.policy.now c.args.day c.args.who.now c.args.request.now e c.in-Some.refusal
-    c.requires.unopposed (c.propose-proposal.ensures.entry c.args.who.now) (sym c.late_refusal.ensures ∙ c.in-Some.is))
+    c.requires.unopposed (c.propose-proposal.ensures.entry c.args.who.now) (sym c.late_refusal-late.ensures ∙ c.in-Some.is))
 
 pub returns-in-Some-clause-accepted : goal.returns-in-Some-clause-accepted
 returns-in-Some-clause-accepted c none =
@@ -57,4 +57,4 @@ returns-in-Some-clause-accepted c none =
     (sym none
     ∙ late_is c.args.board.now.register c.args.policy.now c.args.day c.args.who.now c.args.request.now e
     c.requires.unopposed (c.propose-proposal.ensures.entry c.args.who.now)
-    ∙ sym c.late_refusal.ensures ∙ c.in-Some.is))
+    ∙ sym c.late_refusal-late.ensures ∙ c.in-Some.is))
