@@ -27,6 +27,9 @@ tidy_next {T} {ps} {i} t h = record {
   above = t.above;
 }
 
+pub tidy_wider : {T : Type 0} {ps : List (List T)} {first until more : ℕ} → until ≤ more → AreTidy ps first until → AreTidy ps first more
+tidy_wider le t = record { below = t.below; above = λ k h. t.above k (omega arith) }
+
 pub tidy-removed : {T : Type 0} (ps : List (List T)) (first until r : ℕ) → first ≤ r → r < until → r < length ps → AreTidy ps first until → AreTidy (remove ps r) first until
 tidy-removed ps first until r low high there t =
     let len = length-remove ps r there in

@@ -1,9 +1,10 @@
 -- The first keys of pages, while pages change, come and go.
-use Rattle.std.proofs.Common.{◌≡◌, ℕ, suc, zero, ◌-◌, ◌<◌, Bool, true, false, List, [], ◌∷◌, length, get_or, set, refl, ap, sym, ◌∙◌, arith}
+use Rattle.std.proofs.Common.{◌≡◌, ℕ, suc, zero, ◌+◌, ◌-◌, ◌<◌, ◌≤◌, Bool, true, false, List, [], ◌∷◌, length, get_or, set, refl, ap, sym, ◌∙◌, arith}
 use Rattle.std.specs.List.{insert, remove, slice_get}
 use Rattle.std.specs.Option.{IsSomeAnd}
 use Rattle.page_dir.specs.Pages.{joined, page_of}
 use Rattle.page_dir.specs.Searching.{FailsAt, IsDown, IsTurn, PassesAt}
+use Rattle.page_dir.specs.Splices.{spliced}
 use Rattle.page_dir.specs.Spread.{BeginWith, BeginsWith}
 use Rattle.page_dir.proofs.Places.{down_of_pages}
 
@@ -42,6 +43,20 @@ module _ {K V : Type 0} where
   begin_set (k ∷ ks) [] i key page b h = absurd b
   begin_set (k ∷ ks) (p ∷ ps) zero key page b h = (h, b.1)
   begin_set (k ∷ ks) (p ∷ ps) (suc i) key page b h = (b.0, begin_set ks ps i key page b.1 h)
+
+  pub begins_there : (keys : List (K × Unit {0})) (pages : List (List (K × V))) (i : ℕ) (d : K × Unit {0}) → BeginWith keys pages → i < length keys
+      → BeginsWith (get_or keys i d).0 (page_of pages i)
+  begins_there [] pages i d b h = absurd (omega arith)
+  begins_there (k ∷ ks) [] i d b h = absurd b
+  begins_there (k ∷ ks) (p ∷ ps) zero d b h = b.0
+  begins_there (k ∷ ks) (p ∷ ps) (suc i) d b h = begins_there ks ps i d b.1 (omega arith)
+
+  -- a page that is changed behind its first pair begins as before
+  pub begins_spliced : (key : K) (page : List (K × V)) (at n : ℕ) (new : List (K × V)) → 0 < at → at + n ≤ length page → BeginsWith key page
+      → BeginsWith key (spliced at n new page)
+  begins_spliced key [] at n new more h b = absurd (omega arith)
+  begins_spliced key (p ∷ ps) zero n new more h b = absurd (omega arith)
+  begins_spliced key (p ∷ ps) (suc at) n new more h b = b
 
   pub begins_at_first : (page : List (K × V)) (d : K × V) → 0 < length page → BeginsWith (get_or page 0 d).0 page
   begins_at_first [] d some = absurd (omega arith)

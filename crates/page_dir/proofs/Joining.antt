@@ -26,10 +26,6 @@ start_next ps i h =
     ∙ length-append (joined (take i ps)) (page_of ps i ++ [])
     ∙ ap (λ xs. start ps i + length xs) (append-nil (page_of ps i))
 
--- a page that has nothing comes
-pub joined-insert_empty : {T : Type 0} (ps : List (List T)) (i : ℕ) → joined ps ≡ joined (insert ps i [])
-joined-insert_empty ps i = sym (joined-split ps i) ∙ sym (joined-append (take i ps) ([] ∷ drop i ps))
-
 -- a page that has nothing goes
 pub joined-remove_empty : {T : Type 0} (ps : List (List T)) (i : ℕ) → i < length ps → length (page_of ps i) ≡ 0 → joined (remove ps i) ≡ joined ps
 joined-remove_empty [] i h e = absurd (omega arith)
@@ -89,16 +85,23 @@ start-parted ps i front back h =
     ∙ ap (λ qs. length (joined qs) + length (page_of (set ps i front) i)) (take-set-le i ps i front (omega arith))
     ∙ ap (λ page. start ps i + length page) (get_or-set_same ps i front [] h)
 
--- a page comes in
-pub joined-insert : {T : Type 0} (ps : List (List T)) (i : ℕ) (new : List T) → joined (insert ps i new) ≡ joined (take i ps) ++ (new ++ joined (drop i ps))
-joined-insert ps i new = joined-append (take i ps) (new ∷ drop i ps)
+-- items come to the end of the page before a place
+pub joined-appended : {T : Type 0} (ps : List (List T)) (i at : ℕ) (new : List T) → 0 < i → i ≤ length ps → at ≡ length (page_of ps (i - 1))
+    → joined (set ps (i - 1) (spliced at 0 new (page_of ps (i - 1)))) ≡ joined (take i ps) ++ (new ++ joined (drop i ps))
+joined-appended ps i at new more h e =
+    let below : i - 1 < length ps = omega arith in
+    let next : i - 1 + 1 ≡ i = omega arith in
+    let place : start ps (i - 1) + at ≡ start ps i = ap (λ n. start ps (i - 1) + n) e ∙ sym (start_next ps (i - 1) below) ∙ ap (start ps) next in
+    joined-spliced ps (i - 1) at 0 new below (omega (arith, e))
+    ∙ ap (λ k. spliced k 0 new (joined ps)) place
+    ∙ ap (spliced (start ps i) 0 new) (sym (joined-split ps i))
+    ∙ spliced_behind (joined (take i ps)) (joined (drop i ps)) (start ps i) 0 new refl
 
--- items behind a place go, and a page comes in there
+-- items behind a place go, and others come in there
 pub joined-replaced : {T : Type 0} (before after : List (List T)) (i n : ℕ) (new : List T) → take i after ≡ take i before
-    → joined (drop i after) ≡ drop n (joined (drop i before)) → joined (insert after i new) ≡ spliced (start before i) n new (joined before)
+    → joined (drop i after) ≡ drop n (joined (drop i before)) → joined (take i after) ++ (new ++ joined (drop i after)) ≡ spliced (start before i) n new (joined before)
 joined-replaced before after i n new front rest =
-    joined-insert after i new
-    ∙ ap (λ ps. joined ps ++ (new ++ joined (drop i after))) front
+    ap (λ ps. joined ps ++ (new ++ joined (drop i after))) front
     ∙ ap (λ xs. joined (take i before) ++ (new ++ xs)) rest
     ∙ sym (spliced_behind (joined (take i before)) (joined (drop i before)) (start before i) n new refl)
     ∙ ap (spliced (start before i) n new) (joined-split before i)

@@ -13,8 +13,8 @@ use std::marker::Model;
 /// isn't touched before a page comes into use.
 #[derive(Drop)]
 pub struct PagePool<T: Copy> {
-    // How many items each page has.
-    lens: Pool<usize>,
+    // How many items each page has, in a byte each: those of many pages are at hand then.
+    lens: Pool<u8>,
     // Those of the page at a slot are the 64 from 64 times its index on.
     cells: Vec<T>,
 }
@@ -47,7 +47,7 @@ impl<T: Copy> PagePool<T> {
         ensures items { held self.now slot.now ≡ Some result.now }
         ensures within { length result.now ≤ 64 }
     {
-        let len = *self.lens.get(slot);
+        let len = *self.lens.get(slot) as usize;
         let start = 64 * slot.index();
         &self.cells[start..start + len]
     }
@@ -68,7 +68,7 @@ impl<T: Copy> PagePool<T> {
         ensures taken { self.new ≡ slice_set self.old result (Some new.now) }
         ensures count { spare self.new + 1 ≡ spare self.old }
     {
-        let slot = match self.lens.take(new.len()) {
+        let slot = match self.lens.take(new.len() as u8) {
             Ok(slot) => slot,
             Err(_) => unreachable!(),
         };
@@ -96,9 +96,9 @@ impl<T: Copy> PagePool<T> {
     {
         let held = self.lens.get_mut(slot);
         let start = 64 * slot.index();
-        let len = *held - n + new.len();
-        splice(&mut self.cells, start, *held, at, n, new);
-        *held = len;
+        let len = *held as usize;
+        splice(&mut self.cells, start, len, at, n, new);
+        *held = (len - n + new.len()) as u8;
     }
 }
 

@@ -1,5 +1,5 @@
 //! A splice of the items of pages.
-ghost use Rattle.std.specs.Prelude.{◌≡◌, ℕ, ◌+◌, ◌-◌, ◌^◌, ◌<◌, ◌≤◌, [], length, take, drop, vec_capacity};
+ghost use Rattle.std.specs.Prelude.{◌≡◌, ℕ, ◌+◌, ◌-◌, ◌^◌, ◌<◌, ◌≤◌, ◌++◌, [], length, take, drop, vec_capacity};
 ghost use Rattle.page_dir.specs.Pages.{HoldsEnough, joined, page_of};
 ghost use Rattle.page_dir.specs.Splices.{spliced};
 ghost use Rattle.page_dir.specs.Spread.{AreTidy, IsPlace, pages_in, start};
@@ -48,8 +48,29 @@ pub(crate) fn replace<K: Copy, V: Copy>(
         tidy(spread, carry, i.saturating_sub(1), i + 2);
         return;
     }
-    spread.add(i, new);
+    put(spread, i, new);
     tidy(spread, carry, i.saturating_sub(1), i + 3);
+}
+
+/// Puts items in where a page begins: at the end of the page before it where they fit there, else as a page of their own.
+fn put<K: Copy, V: Copy>(spread: &mut Spread<K, V>, i: usize, new: &[(K, V)])
+    requires there { i ≤ length (pages_in spread.old) }
+    requires some { 0 < length new.now }
+    requires few { length new.now ≤ 64 }
+    requires spare { 0 < spread.old.spare }
+    requires tidy { AreTidy (pages_in spread.old) (i - 1) (i + 2) }
+    ensures joined { joined (pages_in spread.new) ≡ joined (take i (pages_in spread.old)) ++ (new.now ++ joined (drop i (pages_in spread.old))) }
+    ensures count { length (pages_in spread.new) + spread.new.spare ≡ length (pages_in spread.old) + spread.old.spare }
+    ensures tidy { AreTidy (pages_in spread.new) (i - 1) (i + 3) }
+{
+    if 0 < i {
+        let before = spread.page(i - 1).len();
+        if before + new.len() <= 64 {
+            spread.splice(i - 1, before, 0, new);
+            return;
+        }
+    }
+    spread.add(i, new);
 }
 
 /// Parts a page in two at a place, unless a page begins there, and says which page begins there then.

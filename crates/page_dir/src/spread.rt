@@ -113,7 +113,7 @@ impl<K: Copy, V: Copy> Spread<K, V> {
         self.near = i.saturating_add(1);
         let slot = self.order[i];
         self.pool.splice(&slot, at, n, new);
-        self.firsts[i] = (first_key(self.pool.page(&slot), self.firsts[i].0), ());
+        self.firsts[i] = (first_key(self.pool.page(&slot), at, self.firsts[i].0), ());
     }
 
     /// A vacant page comes into use with these items.
@@ -143,13 +143,18 @@ impl<K: Copy, V: Copy> Spread<K, V> {
     }
 }
 
-/// The key with which the page begins, or this one where it has no pair.
-fn first_key<K: Copy, V: Copy>(page: &[(K, V)], other: K) -> K
+/// The key with which a page begins that was changed from a place on. Behind its first pair it begins as before, and that
+/// pair, which may be far off, isn't read.
+fn first_key<K: Copy, V: Copy>(page: &[(K, V)], at: usize, before: K) -> K
+    requires before { 0 < at → BeginsWith before page.now }
     ensures { BeginsWith result page.now }
 {
+    if 0 < at {
+        return before;
+    }
     match page {
         [(key, _), ..] => *key,
-        [] => other,
+        [] => before,
     }
 }
 

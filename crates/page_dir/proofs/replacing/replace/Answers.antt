@@ -1,10 +1,9 @@
 use Rattle.std.proofs.Common.{◌≡◌, ◌+◌, ◌-◌, ◌∙◌, length, arith, ap, sym, drop, take, subst, []}
-use Rattle.std.specs.List.{insert}
 use Rattle.page_dir.specs.Pages.{joined, page_of}
 use Rattle.page_dir.specs.Splices.{spliced}
 use Rattle.page_dir.specs.Spread.{AreTidy, pages_in, start}
-use Rattle.page_dir.proofs.Enough.{enough_grown, tidy-inserted, tidy-set}
-use Rattle.page_dir.proofs.Joining.{joined-insert_empty, joined-replaced, joined-spliced, joined-split}
+use Rattle.page_dir.proofs.Enough.{enough_grown, tidy-set}
+use Rattle.page_dir.proofs.Joining.{joined-replaced, joined-spliced, joined-split}
 use Rattle.page_dir.proofs.Splicing.{length-spliced}
 use Rattle.std.proofs.lemmas.Bool.{eqb-true}
 use Rattle.std.proofs.lemmas.List.{length-append, nil_from_length}
@@ -48,18 +47,15 @@ tidy-requires-clause-tidy g c =
 
 pub tidy-requires-2-clause-tidy : goal.tidy-requires-2-clause-tidy
 tidy-requires-2-clause-tidy g c =
-    let ps = pages_in c.cut.new.spread in
     let r = c.part-i.result in
-    let to : r + 2 + 1 ≡ r + 3 = omega arith in
     let from : r - 1 ≡ c.saturating_sub-2.result = omega arith in
-    let tidy = tidy-inserted ps (r - 1) (r + 2) r c.args.new.now (omega arith) (omega arith) c.cut.ensures.there c.cut.ensures.tidy in
-    rw c.add.ensures.pages (subst (λ k. AreTidy (insert ps r c.args.new.now) k (r + 3)) from (subst (λ k. AreTidy (insert ps r c.args.new.now) (r - 1) k) to tidy))
+    subst (λ k. AreTidy (pages_in c.put.new.spread) k (r + 3)) from c.put.ensures.tidy
 
 pub returns-clause-joined : goal.returns-clause-joined
 returns-clause-joined g c =
     let ps = pages_in c.part-i.new.spread in
     let r = c.part-i.result in
-    c.tidy-2.ensures.joined ∙ ap joined c.add.ensures.pages
+    c.tidy-2.ensures.joined ∙ c.put.ensures.joined
     ∙ joined-replaced ps (pages_in c.cut.new.spread) r c.args.n c.args.new.now c.cut.ensures.front c.cut.ensures.rest
     ∙ ap (λ k. spliced k c.args.n c.args.new.now (joined ps)) c.part-i.ensures.place
     ∙ ap (spliced (start (pages_in c.args.spread.now) c.args.i + c.args.at) c.args.n c.args.new.now) c.part-i.ensures.joined
@@ -70,7 +66,7 @@ returns-then-is_empty-clause-joined g c =
     let qs = pages_in c.cut.new.spread in
     let r = c.part-i.result in
     let at = start (pages_in c.args.spread.now) c.args.i + c.args.at in
-    c.tidy-then-is_empty.ensures.joined ∙ joined-insert_empty qs r
+    c.tidy-then-is_empty.ensures.joined ∙ sym (joined-split qs r)
     ∙ joined-replaced ps qs r c.args.n [] c.cut.ensures.front c.cut.ensures.rest
     ∙ ap (λ k. spliced k c.args.n [] (joined ps)) c.part-i.ensures.place
     ∙ ap (spliced at c.args.n []) c.part-i.ensures.joined

@@ -5,8 +5,8 @@ use Rattle.page_dir.proofs.Regions.{length-region}
 use Rattle.page_dir.specs.Regions.{region}
 use Rattle.page_dir.proofs.page_pool.PagePool.page.Goals as goal
 
-pub get-len-requires : goal.get-len-requires
-get-len-requires g c = live_len c.self.inside.cells.items c.self.inside.lens c.args.self.now c.self.view_is c.args.slot.now c.requires
+pub get-requires : goal.get-requires
+get-requires g c = live_len c.self.inside.cells.items c.self.inside.lens c.args.self.now c.self.view_is c.args.slot.now c.requires
 
 pub overflow_mul-start : goal.overflow_mul-start
 overflow_mul-start g c =
@@ -15,25 +15,25 @@ overflow_mul-start g c =
 
 pub overflow_add-result : goal.overflow_add-result
 overflow_add-result g c =
-    let head = c.self.invariant.each c.args.slot.now c.get-len.result.now c.get-len.ensures in
+    let head = c.self.invariant.each c.args.slot.now c.get.result.now c.get.ensures in
     omega (arith, head.within, head.there, c.index-start.ensures, ap length c.deref.ensures.value, c.deref.type_inv.0)
 
 pub offset_bounds-deref-start : goal.offset_bounds-deref-start
 offset_bounds-deref-start g c =
-    let head = c.self.invariant.each c.args.slot.now c.get-len.result.now c.get-len.ensures in
+    let head = c.self.invariant.each c.args.slot.now c.get.result.now c.get.ensures in
     omega (arith, head.there, c.index-start.ensures, ap length c.deref.ensures.value)
 
 pub slice_bounds-result-end : goal.slice_bounds-result-end
 slice_bounds-result-end g c =
-    let head = c.self.invariant.each c.args.slot.now c.get-len.result.now c.get-len.ensures in
+    let head = c.self.invariant.each c.args.slot.now c.get.result.now c.get.ensures in
     omega (arith, head.within, head.there, c.index-start.ensures, ap length c.deref.ensures.value)
 
 pub returns-clause-items : goal.returns-clause-items
 returns-clause-items g c =
     let at = c.index-start.result in
-    let len = c.get-len.result.now in
+    let len = c.get.result.now in
     let size : 64 * at + len - 64 * at ≡ len = omega arith in
-    held_seen c.self.inside.cells.items c.self.inside.lens c.args.self.now c.self.view_is c.args.slot.now c.get-len.result.now c.get-len.ensures
+    held_seen c.self.inside.cells.items c.self.inside.lens c.args.self.now c.self.view_is c.args.slot.now c.get.result.now c.get.ensures
     ∙ ap (λ page. Some page) (
     ap (λ k. region c.self.inside.cells.items (64 * k) len) (sym c.index-start.ensures)
     ∙ ap (λ cells. region cells (64 * at) len) (sym c.deref.ensures.value)
@@ -41,7 +41,7 @@ returns-clause-items g c =
 
 pub returns-clause-within : goal.returns-clause-within
 returns-clause-within g c =
-    let head = c.self.invariant.each c.args.slot.now c.get-len.result.now c.get-len.ensures in
-    let e = length-region c.deref.result.now (64 * c.index-start.result) (64 * c.index-start.result + c.get-len.result.now - 64 * c.index-start.result)
+    let head = c.self.invariant.each c.args.slot.now c.get.result.now c.get.ensures in
+    let e = length-region c.deref.result.now (64 * c.index-start.result) (64 * c.index-start.result + c.get.result.now - 64 * c.index-start.result)
     (omega (arith, head.within, head.there, c.index-start.ensures, ap length c.deref.ensures.value)) in
     omega (arith, e, head.within)

@@ -16,13 +16,13 @@ overflow_mul-start g c =
     let within = live_within c.self.inside.lens c.args.slot.now live in
     omega (arith, within, c.self.invariant.most, c.index-start.ensures)
 
-pub overflow_sub-len : goal.overflow_sub-len
-overflow_sub-len g c =
+pub overflow_sub-held : goal.overflow_sub-held
+overflow_sub-held g c =
     let len = page_length c.self.invariant c.args.self.now c.self.view_is c.args.slot.now c.get_mut-held.result.now c.get_mut-held.ensures.value in
     omega (arith, len, c.requires.there)
 
-pub overflow_add-len : goal.overflow_add-len
-overflow_add-len g c =
+pub overflow_add-held : goal.overflow_add-held
+overflow_add-held g c =
     let len = page_length c.self.invariant c.args.self.now c.self.view_is c.args.slot.now c.get_mut-held.result.now c.get_mut-held.ensures.value in
     omega (arith, len, c.requires.there, c.requires.fits)
 

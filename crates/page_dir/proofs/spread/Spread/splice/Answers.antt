@@ -1,10 +1,10 @@
-use Rattle.std.proofs.Common.{◌≡◌, ◌<◌, ◌∙◌, length, arith, ap, refl, sym, set, subst, Option, Some, IfSome, List}
+use Rattle.std.proofs.Common.{◌≡◌, ◌<◌, ◌∙◌, length, arith, ap, get_or, refl, sym, set, subst, Option, Some, IfSome, List}
 use Rattle.std.specs.Option.{IsSome}
 use Rattle.slot_pool.specs.Cells.{held, spare}
 use Rattle.page_dir.specs.Pages.{or_empty, page_of, pages_at}
 use Rattle.page_dir.specs.Splices.{spliced}
 use Rattle.page_dir.specs.Spread.{BeginWith, BeginsWith, pages_in}
-use Rattle.page_dir.proofs.Firsts.{begin_set, keys_of_pages}
+use Rattle.page_dir.proofs.Firsts.{begin_set, begins_spliced, begins_there, keys_of_pages}
 use Rattle.page_dir.proofs.Splicing.{length-spliced}
 use Rattle.page_dir.proofs.Spreads.{length-pages_at, page_at, pages_written, slot_lives, spare_written, spread_written, written_there}
 use Rattle.page_dir.proofs.spread.Spread.splice.Goals as goal
@@ -28,6 +28,33 @@ index-requires-2 g c =
     let seen : pages_at c.self.inside.pool c.self.inside.order.items ≡ pages_in c.args.self.now = ap pages_in c.self.view_is in
     let keys = keys_of_pages c.self.inside.firsts.items (pages_at c.self.inside.pool c.self.inside.order.items) c.self.invariant.begin in
     omega (arith, c.requires.page, ap length seen, keys)
+
+pub first_key-requires : goal.first_key-requires
+first_key-requires g c =
+    let pool = c.self.inside.pool in
+    let order = c.self.inside.order.items in
+    let firsts = c.self.inside.firsts.items in
+    let slot = c.index.result.now in
+    let key = c.index-2.result.now in
+    let seen : pages_at pool order ≡ pages_in c.args.self.now = ap pages_in c.self.view_is in
+    let len = length-pages_at pool order in
+    let keys = keys_of_pages firsts (pages_at pool order) c.self.invariant.begin in
+    let i : c.args.i < length order = omega (arith, c.requires.page, ap length seen, len) in
+    let lives = slot_lives pool order firsts _ _ c.args.i slot c.self.invariant i in
+    let live = ap (held pool) c.index.ensures ∙ lives.1 in
+    let page = page_at pool order c.args.i slot lives.0 i c.index.ensures live in
+    let old : length (page_of (pages_in c.args.self.now) c.args.i) ≡ length (or_empty (held pool slot)) =
+    ap (λ pages. length (page_of pages c.args.i)) (sym seen) ∙ ap length page ∙ ap (λ o. length (or_empty o)) (sym live) in
+    let new = spliced c.args.at c.args.n c.args.new.now (or_empty (held pool slot)) in
+    let there = ap (λ p. held p slot) c.splice.ensures ∙ written_there pool slot lives.0 new live in
+    let before : BeginsWith key.0 (or_empty (held pool slot)) =
+    subst (λ (k : g.row.K.Denot × Unit {0}). BeginsWith k.0 (or_empty (held pool slot))) (sym c.index-2.ensures)
+    (subst (BeginsWith (get_or firsts c.args.i key).0) (page ∙ sym (ap or_empty live))
+    (begins_there firsts (pages_at pool order) c.args.i key c.self.invariant.begin (omega (arith, i, keys, len)))) in
+    record {
+      before = λ more. subst (λ (o : Option (List (g.row.K.Denot × g.row.V.Denot))). IfSome o (BeginsWith key.0)) (sym there ∙ c.page.ensures.items)
+          (begins_spliced key.0 (or_empty (held pool slot)) c.args.at c.args.n c.args.new.now more (omega (arith, old, c.requires.there)) before);
+    }
 
 pub index_mut-requires : goal.index_mut-requires
 index_mut-requires g c =
