@@ -16,7 +16,7 @@ use Rattle.reg_entry.specs.Operations.{objects_after, operations_of}
 use Rattle.reg_entry.specs.Whole.{IsWholeRegister}
 use Rattle.reg_laws.proofs.Accepting.{accepted_is_next}
 use Rattle.reg_laws.proofs.Reaching.{legal-append, register_of_legal, reached_once, reached_pooled, reached_sizes}
-use Rattle.reg_laws.proofs.RisingKeys.{operations_give}
+use Rattle.reg_laws.proofs.Leading.{operations_give}
 use Rattle.reg_laws.proofs.WholeStep.{legal_whole}
 use Rattle.course_core.specs.declared.event.Event.{Event}
 use Rattle.course_core.specs.declared.event.Event.TheVariants.{Submit, Publish, Look, Tell, Pull}

@@ -31,7 +31,7 @@ use Rattle.reg_entry.specs.Covers.{card_for}
 use Rattle.reg_entry.specs.Next.{until_of, IsNextEntry}
 use Rattle.reg_entry.specs.Whole.{IsWholeRegister}
 use Rattle.reg_laws.proofs.Accepting.{range_valid}
-use Rattle.reg_laws.proofs.DistinctKeys.{whole_is_distinct}
+use Rattle.reg_laws.proofs.RisingKeys.{whole_is_distinct}
 use Rattle.reg_laws.proofs.Fitting.{sub_is_free, sub_holder_known, returned_sub_is_there}
 use Rattle.reg_laws.proofs.HolderFacts.{none_with_handle}
 use Rattle.reg_laws.proofs.Knowing.{new_handle, edited_holder_is_there}

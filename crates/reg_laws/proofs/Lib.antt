@@ -15,10 +15,11 @@ pub mod RequestKeeps
 pub mod WholeLists
 pub mod WholeStep
 pub mod ReverseCuts
-pub mod DistinctKeys
+mod KeyOrder
 pub mod Boards
 pub mod Narrowing
 pub mod RisingKeys
+pub mod Leading
 pub mod Reaching
 pub mod Paints
 pub mod Shares

@@ -1,171 +1,42 @@
--- The objects of a whole register rise by key, and so the operations of a legal list lead to the very list of them.
-use Rattle.std.proofs.Common.{◌≡◌, ℕ, zero, suc, ◌+◌, ◌<◌, ◌≤◌, Bool, true, false, cond, not, ◌&&◌, ◌||◌, ◌==◌, nat_lt, ◌⊎◌, inl, inr, List, [], ◌∷◌, ◌++◌, None, Some, filter, map, refl, sym, ◌∙◌, ap, subst, arith}
+-- The objects of a whole register rise by key, and so have distinct keys.
+use Rattle.std.proofs.Common.{◌≡◌, ℕ, suc, ◌+◌, ◌<◌, ◌≤◌, Bool, cond, inl, inr, List, [], ◌∷◌, ◌++◌, None, Some, map, refl, sym, ◌∙◌, ap, subst, arith, true, not, nat_lt, filter}
 use Rattle.std.specs.List.{fold, flat_map}
-use Rattle.std.proofs.lemmas.Bool.{cond_both, cond-true, cond-false, cases_Bool, cases_order, both_ways, or_left, or_right, or_cases, and_from, and_parts, ltb-true, eqb-true, lt-ltb, eq-eqb, false_from_ne_true}
-use Rattle.std.proofs.lemmas.Option.{none-some, same_Some}
+use Rattle.std.proofs.lemmas.Bool.{cond_both, cond-false, false_from_ne_true, or_left, or_right, and_from, lt-ltb, eq-eqb}
 use Rattle.num_range.specs.declared.space.Space.{Space}
 use Rattle.num_range.specs.declared.space.Space.TheVariants.{Asn, Ipv4, Ipv6}
 use Rattle.num_range.specs.Range.{PlainRange}
+use Rattle.num_range.specs.Block.{block_size}
+use Rattle.num_range.specs.Cover.{is_cut_length, reverse_cuts}
 use Rattle.reg_entry.specs.declared.holder.Holder.{Holder}
 use Rattle.reg_entry.specs.declared.piece.Piece.{Piece}
 use Rattle.reg_entry.specs.declared.sub_card.SubCard.{SubCard}
-use Rattle.reg_entry.specs.declared.rooms.Rooms.{Rooms}
 use Rattle.reg_entry.specs.declared.object.Object.{Object}
+use Rattle.reg_entry.specs.declared.object.Object.TheVariants.{Cut}
 use Rattle.reg_entry.specs.declared.object.Key.{Key}
 use Rattle.reg_entry.specs.declared.object.Key.TheVariants.{Org as OrgKey, Block as BlockKey, Sub as SubKey, Cut as CutKey}
 use Rattle.reg_entry.specs.declared.object.Act.{Act}
 use Rattle.reg_entry.specs.declared.object.Act.TheVariants.{Add, Del}
-use Rattle.reg_entry.specs.Entry.{PlainEntry}
 use Rattle.reg_entry.specs.Pieces.{RisesFrom, AllPiecesOf}
-use Rattle.reg_entry.specs.Ranges.{space_rank, same_space, range_before, IsBelow, AreApart}
-use Rattle.reg_entry.specs.Register.{Register, after_entry, register_after}
-use Rattle.reg_entry.specs.Objects.{key_of, same_key, bytes_before, key_before, has_key, object_at, with_object, org_of, orgs_of, blocks_of, sub_of, cuts_of, objects_of, changed, played}
-use Rattle.reg_entry.specs.Operations.{changes_of, operations_of, change_of, objects_after}
-use Rattle.reg_entry.specs.Next.{IsNextEntry, IsLegal}
+use Rattle.reg_entry.specs.Ranges.{space_rank, IsBelow, AreApart, same_space, range_before}
+use Rattle.reg_entry.specs.Register.{Register}
+use Rattle.reg_entry.specs.Objects.{key_of, has_key, object_at, HaveDistinctKeys, with_object, key_before, org_of, orgs_of, blocks_of, sub_of, cuts_of, objects_of, changed, played}
 use Rattle.reg_entry.specs.Whole.{IsWholeRegister}
+use Rattle.reg_laws.proofs.Sameness.{same_key-true}
+use Rattle.reg_laws.proofs.RangeLists.{RisesAfter, apart_parts, below_cases, below_through, below_rank, below_same}
+use Rattle.reg_laws.proofs.ReverseCuts.{RiseIn, cuts_rise}
 use Rattle.reg_laws.specs.Rising.{IsBeforeAll, RisesByKey}
-use Rattle.reg_laws.proofs.Sameness.{space_of, space_of_rank, as_range, same_key-true, same_key-refl}
-use Rattle.reg_laws.proofs.RangeLists.{RisesAfter, apart_parts, below_cases}
-use Rattle.reg_laws.proofs.DistinctKeys.{part_of, AllBefore, AllIn, before_append, before_next, orgs_in, blocks_in, subs_in_part, CutsFrom, cuts_in, cuts_of_apart, AreAlike, next_changes_lead, operations_lead}
-use Rattle.reg_laws.proofs.WholeStep.{next_whole, legal_whole}
-
--- ---- the order of lists of numbers
-
-first_differs : (x y z : ℕ) (p q s : Bool) → (nat_lt x y || ((x == y) && p)) ≡ true → (nat_lt y z || ((y == z) && q)) ≡ true
-    → (p ≡ true → q ≡ true → s ≡ true) → (nat_lt x z || ((x == z) && s)) ≡ true
-first_differs x y z p q s h k both =
-    elim (or_cases (nat_lt x y) ((x == y) && p) h) [
-      | inl a ↦ elim (or_cases (nat_lt y z) ((y == z) && q) k) [
-        | inl b ↦ or_left (nat_lt x z) ((x == z) && s) (lt-ltb x z (let l = ltb-true x y a in let m = ltb-true y z b in omega arith))
-        | inr b ↦ or_left (nat_lt x z) ((x == z) && s) (lt-ltb x z (let l = ltb-true x y a in let m = eqb-true y z (and_parts (y == z) q b).0 in omega arith))
-      ]
-      | inr a ↦
-          let e : x ≡ y = eqb-true x y (and_parts (x == y) p a).0 in
-          elim (or_cases (nat_lt y z) ((y == z) && q) k) [
-            | inl b ↦ or_left (nat_lt x z) ((x == z) && s) (lt-ltb x z (let m = ltb-true y z b in omega arith))
-            | inr b ↦
-                let c = and_parts (y == z) q b in
-                or_right (nat_lt x z) ((x == z) && s)
-                (and_from (x == z) s (eq-eqb x z (e ∙ eqb-true y z c.0)) (both (and_parts (x == y) p a).1 c.1))
-          ]
-    ]
-
-before_through : (a b c : List ℕ) → bytes_before a b ≡ true → bytes_before b c ≡ true → bytes_before a c ≡ true
-before_through [] [] c h k = absurd (both_ways false refl h)
-before_through [] (y ∷ ys) [] h k = absurd (both_ways false refl k)
-before_through [] (y ∷ ys) (z ∷ zs) h k = refl
-before_through (x ∷ xs) [] c h k = absurd (both_ways false refl h)
-before_through (x ∷ xs) (y ∷ ys) [] h k = absurd (both_ways false refl k)
-before_through (x ∷ xs) (y ∷ ys) (z ∷ zs) h k =
-    first_differs x y z (bytes_before xs ys) (bytes_before ys zs) (bytes_before xs zs) h k (before_through xs ys zs)
-
-not_before_itself : (a : List ℕ) → bytes_before a a ≡ true → ⊥
-not_before_itself [] h = both_ways false refl h
-not_before_itself (x ∷ xs) h =
-    elim (or_cases (nat_lt x x) ((x == x) && bytes_before xs xs) h) [
-      | inl a ↦ let l = ltb-true x x a in omega arith
-      | inr a ↦ not_before_itself xs (and_parts (x == x) (bytes_before xs xs) a).1
-    ]
-
--- one list is before the other, or they are the same
-one_way : (a b : List ℕ) → (bytes_before a b ≡ true) ⊎ ((bytes_before b a ≡ true) ⊎ (a ≡ b))
-one_way [] [] = inr (inr refl)
-one_way [] (y ∷ ys) = inl refl
-one_way (x ∷ xs) [] = inr (inl refl)
-one_way (x ∷ xs) (y ∷ ys) =
-    elim (cases_order x y) [
-      | inl e ↦ elim (one_way xs ys) [
-        | inl h ↦ inl (or_right (nat_lt x y) ((x == y) && bytes_before xs ys) (and_from (x == y) (bytes_before xs ys) (eq-eqb x y e) h))
-        | inr h ↦ elim h [
-          | inl k ↦ inr (inl (or_right (nat_lt y x) ((y == x) && bytes_before ys xs) (and_from (y == x) (bytes_before ys xs) (eq-eqb y x (sym e)) k)))
-          | inr k ↦ inr (inr (ap (λ n. n ∷ xs) e ∙ ap (λ zs. y ∷ zs) k))
-        ]
-      ]
-      | inr h ↦ elim h [
-        | inl lt ↦ inl (or_left (nat_lt x y) ((x == y) && bytes_before xs ys) (lt-ltb x y lt))
-        | inr gt ↦ inr (inl (or_left (nat_lt y x) ((y == x) && bytes_before ys xs) (lt-ltb y x gt)))
-      ]
-    ]
-
--- ---- keys as lists of numbers, in the same order
-
-abbrev range_code : PlainRange → List ℕ
-range_code r = space_rank r.space ∷ r.first ∷ r.last ∷ []
-
-abbrev code : Key → List ℕ
-code (OrgKey handle) = 0 ∷ handle
-code (BlockKey r) = 1 ∷ range_code r
-code (SubKey r) = 2 ∷ range_code r
-code (CutKey r) = 3 ∷ range_code r
-
-coded_range : List ℕ → PlainRange
-coded_range (a ∷ b ∷ c ∷ rest) = as_range (space_of a) b c
-coded_range other = as_range Asn 0 0
-
-coded_key : List ℕ → Key
-coded_key [] = OrgKey []
-coded_key (zero ∷ rest) = OrgKey rest
-coded_key (suc zero ∷ rest) = BlockKey (coded_range rest)
-coded_key (suc (suc zero) ∷ rest) = SubKey (coded_range rest)
-coded_key (suc (suc (suc n)) ∷ rest) = CutKey (coded_range rest)
-
-range_of_code : (r : PlainRange) → coded_range (range_code r) ≡ r
-unfolding coded_range as_range
-range_of_code r = ap (λ s. as_range s r.first r.last) (space_of_rank r.space)
-
-key_of_code : (k : Key) → coded_key (code k) ≡ k
-unfolding coded_key
-key_of_code (OrgKey handle) = refl
-key_of_code (BlockKey r) = ap (λ x. BlockKey x) (range_of_code r)
-key_of_code (SubKey r) = ap (λ x. SubKey x) (range_of_code r)
-key_of_code (CutKey r) = ap (λ x. CutKey x) (range_of_code r)
-
-last_number : (a b : Bool) → (a || (b && false)) ≡ a
-last_number true b = refl
-last_number false true = refl
-last_number false false = refl
-
-range_code_before : (r s : PlainRange) → bytes_before (range_code r) (range_code s) ≡ range_before r s
-range_code_before r s =
-    ap (λ b. nat_lt (space_rank r.space) (space_rank s.space) || (same_space r.space s.space && (nat_lt r.first s.first || ((r.first == s.first) && b))))
-    (last_number (nat_lt r.last s.last) (r.last == s.last))
-
-code_before : (j k : Key) → bytes_before (code j) (code k) ≡ key_before j k
-code_before (OrgKey a) (OrgKey b) = refl
-code_before (BlockKey a) (BlockKey b) = range_code_before a b
-code_before (SubKey a) (SubKey b) = range_code_before a b
-code_before (CutKey a) (CutKey b) = range_code_before a b
-code_before j k = refl
-
-key_before_through : (i j k : Key) → key_before i j ≡ true → key_before j k ≡ true → key_before i k ≡ true
-key_before_through i j k g h =
-    sym (code_before i k) ∙ before_through (code i) (code j) (code k) (code_before i j ∙ g) (code_before j k ∙ h)
-
-no_key_before_itself : (k : Key) → key_before k k ≡ true → ⊥
-no_key_before_itself k h = not_before_itself (code k) (code_before k k ∙ h)
-
-key_behind : (j k : Key) → key_before j k ≡ false → same_key k j ≡ false → key_before k j ≡ true
-key_behind j k f other =
-    elim (one_way (code j) (code k)) [
-      | inl h ↦ absurd (both_ways (key_before j k) f (sym (code_before j k) ∙ h))
-      | inr h ↦ elim h [
-        | inl b ↦ sym (code_before k j) ∙ b
-        | inr e ↦
-            let same : j ≡ k = sym (key_of_code j) ∙ ap coded_key e ∙ key_of_code k in
-            absurd (both_ways (same_key k j) other (ap (same_key k) same ∙ same_key-refl k))
-      ]
-    ]
+use Rattle.reg_laws.proofs.KeyOrder.{key_before_through, no_key_before_itself, key_behind}
 
 -- ---- lists that rise by key
 
-none_after : (k : Key) (os : List Object) → IsBeforeAll k os → object_at os k ≡ None
+pub none_after : (k : Key) (os : List Object) → IsBeforeAll k os → object_at os k ≡ None
 none_after k [] h = refl
 none_after k (o ∷ os) h =
     cond-false (has_key k o) (Some o) (object_at os k)
     (false_from_ne_true (has_key k o) (λ t. no_key_before_itself k (subst (λ j. key_before k j ≡ true) (same_key-true (key_of o) k t) h.0)))
     ∙ none_after k os h.1
 
-after_lower : (j k : Key) (os : List Object) → key_before j k ≡ true → IsBeforeAll k os → IsBeforeAll j os
+pub after_lower : (j k : Key) (os : List Object) → key_before j k ≡ true → IsBeforeAll k os → IsBeforeAll j os
 after_lower j k [] e h = tt
 after_lower j k (o ∷ os) e h = (key_before_through j k (key_of o) e h.0, after_lower j k os e h.1)
 
@@ -207,54 +78,35 @@ rises_changed : (os : List Object) (c : Act × Object) → RisesByKey os → Ris
 rises_changed os (Add, o) h = rises_with os o h
 rises_changed os (Del, o) h = rises_filter (λ p. not (has_key (key_of o) p)) os h
 
-rises_played : (os : List Object) (cs : List (Act × Object)) → RisesByKey os → RisesByKey (played os cs)
+pub rises_played : (os : List Object) (cs : List (Act × Object)) → RisesByKey os → RisesByKey (played os cs)
 rises_played os [] h = h
 rises_played os (c ∷ cs) h = rises_played (changed os c) cs (rises_changed os c h)
 
--- rising lists that give each key the same object are the same
-found_first : (o : Object) (os : List Object) → object_at (o ∷ os) (key_of o) ≡ Some o
-found_first o os = cond-true (has_key (key_of o) o) (Some o) (object_at os (key_of o)) (same_key-refl (key_of o))
+rising_is_distinct : (os : List Object) → RisesByKey os → HaveDistinctKeys os
+rising_is_distinct [] h = tt
+rising_is_distinct (o ∷ os) h = (none_after (key_of o) os h.0, rising_is_distinct os h.1)
 
-alike_rest : (o : Object) (os ps : List Object) → IsBeforeAll (key_of o) os → IsBeforeAll (key_of o) ps → AreAlike (o ∷ os) (o ∷ ps) → AreAlike os ps
-alike_rest o os ps h g alike k =
-    elim (cases_Bool (has_key k o)) [
-      | inl t ↦
-          let same : key_of o ≡ k = same_key-true (key_of o) k t in
-          subst (λ j. object_at os j ≡ object_at ps j) same (none_after (key_of o) os h ∙ sym (none_after (key_of o) ps g))
-      | inr f ↦
-          sym (cond-false (has_key k o) (Some o) (object_at os k) f) ∙ alike k ∙ cond-false (has_key k o) (Some o) (object_at ps k) f
-    ]
+-- ---- the parts of the map
 
-one_list : (os ps : List Object) → RisesByKey os → RisesByKey ps → AreAlike os ps → os ≡ ps
-one_list [] [] h g alike = refl
-one_list [] (p ∷ ps) h g alike = absurd (none-some p (alike (key_of p) ∙ found_first p ps))
-one_list (o ∷ os) [] h g alike = absurd (none-some o (sym (alike (key_of o)) ∙ found_first o os))
-one_list (o ∷ os) (p ∷ ps) h g alike =
-    let there : object_at (p ∷ ps) (key_of o) ≡ Some o = sym (alike (key_of o)) ∙ found_first o os in
-    let here : object_at (o ∷ os) (key_of p) ≡ Some p = alike (key_of p) ∙ found_first p ps in
-    elim (cases_Bool (has_key (key_of o) p)) [
-      | inl t ↦
-          let same : p ≡ o = same_Some p o (sym (cond-true (has_key (key_of o) p) (Some p) (object_at ps (key_of o)) t) ∙ there) in
-          let rest : os ≡ ps =
-          one_list os ps h.1 g.1
-          (alike_rest o os ps h.0 (subst (λ x. IsBeforeAll (key_of x) ps) same g.0) (subst (λ x. AreAlike (o ∷ os) (x ∷ ps)) same alike)) in
-          ap (λ x. x ∷ os) (sym same) ∙ ap (λ xs. p ∷ xs) rest
-      | inr f ↦
-          absurd (elim (cases_Bool (key_before (key_of o) (key_of p))) [
-            | inl b ↦
-                none-some o
-                (sym (cond-false (has_key (key_of o) p) (Some p) (object_at ps (key_of o)) f ∙ none_after (key_of o) ps (after_lower (key_of o) (key_of p) ps b g.0)) ∙ there)
-            | inr b ↦
-                let behind = key_behind (key_of o) (key_of p) b f in
-                let other : has_key (key_of p) o ≡ false =
-                false_from_ne_true (has_key (key_of p) o) (λ t.
-                no_key_before_itself (key_of p) (subst (λ k. key_before (key_of p) k ≡ true) (same_key-true (key_of o) (key_of p) t) behind)) in
-                none-some p
-                (sym (cond-false (has_key (key_of p) o) (Some o) (object_at os (key_of p)) other ∙ none_after (key_of p) os (after_lower (key_of p) (key_of o) os behind h.0)) ∙ here)
-          ])
-    ]
+-- the part of the map where a key's object stands: holders, the pieces of each space, subs, reverse cuts
+abbrev part_of : Key → ℕ
+part_of (OrgKey handle) = 0
+part_of (BlockKey range) = suc (space_rank range.space)
+part_of (SubKey range) = 4
+part_of (CutKey range) = 5
 
--- ---- the objects of a whole register
+abbrev AllBefore : ℕ → List Object → Type 0
+AllBefore n [] = Unit {0}
+AllBefore n (o ∷ os) = (part_of (key_of o) < n) × AllBefore n os
+
+abbrev AllIn : ℕ → List Object → Type 0
+AllIn n [] = Unit {0}
+AllIn n (o ∷ os) = (part_of (key_of o) ≡ n) × AllIn n os
+
+before_append : (n m k : ℕ) (os ps : List Object) → n ≤ m → k < m → AllBefore n os → AllIn k ps → AllBefore m (os ++ ps)
+before_append n m k [] [] h g before all = tt
+before_append n m k [] (p ∷ ps) h g before all = (let e = all.0 in omega arith, before_append n m k [] ps h g tt all.1)
+before_append n m k (o ∷ os) ps h g before all = (let e = before.0 in omega arith, before_append n m k os ps h g before.1 all)
 
 rank_bound : (s : Space) → space_rank s ≤ 2
 rank_bound Asn = omega arith
@@ -293,9 +145,31 @@ rises_append n [] ps before all h g = g
 rises_append n (o ∷ os) ps before all h g =
     (after_both (key_of o) os ps h.0 (after_part n (key_of o) ps before.0 all), rises_append n os ps before.1 all h.1 g)
 
+-- ---- holders
+
 orgs_rise : (os : List Object) (hs : List (Holder × ℕ)) → RisesByKey os → RisesByKey (fold with_object os (map org_of hs))
 orgs_rise os [] h = h
 orgs_rise os (m ∷ hs) h = orgs_rise (with_object os (org_of m)) hs (rises_with os (org_of m) h)
+
+in_with : (n : ℕ) (os : List Object) (o : Object) → part_of (key_of o) ≡ n → AllIn n os → AllIn n (with_object os o)
+in_with n [] o e h = (e, tt)
+in_with n (p ∷ os) o e h =
+    cond_both (has_key (key_of o) p) (o ∷ os) (cond (key_before (key_of o) (key_of p)) (o ∷ p ∷ os) (p ∷ with_object os o)) (AllIn n)
+    (λ t. (e, h.1))
+    (λ f.
+    cond_both (key_before (key_of o) (key_of p)) (o ∷ p ∷ os) (p ∷ with_object os o) (AllIn n)
+    (λ b. (e, h))
+    (λ b. (h.0, in_with n os o e h.1)))
+
+orgs_in : (os : List Object) (hs : List (Holder × ℕ)) → AllIn 0 os → AllIn 0 (fold with_object os (map org_of hs))
+orgs_in os [] h = h
+orgs_in os (m ∷ hs) h = orgs_in (with_object os (org_of m)) hs (in_with 0 os (org_of m) refl h)
+
+before_next : (n : ℕ) (os : List Object) → AllIn n os → AllBefore (n + 1) os
+before_next n [] h = tt
+before_next n (o ∷ os) h = (let e = h.0 in omega arith, before_next n os h.1)
+
+-- ---- pieces
 
 blocks_after : (hs : List (Holder × ℕ)) (space : Space) (low : ℕ) (ps : List Piece) (r : PlainRange) → RisesFrom low ps → AllPiecesOf space ps
     → r.space ≡ space → r.first < low → IsBeforeAll (BlockKey r) (blocks_of hs ps)
@@ -314,6 +188,12 @@ blocks_rise hs space low [] rises each = tt
 blocks_rise hs space low (p ∷ ps) rises each =
     let o : p.range.first ≤ p.range.last = rises.1 in
     (blocks_after hs space (p.range.last + 1) ps p.range rises.2 each.1 each.0.of_space (omega arith), blocks_rise hs space (p.range.last + 1) ps rises.2 each.1)
+
+blocks_in : (hs : List (Holder × ℕ)) (space : Space) (ps : List Piece) → AllPiecesOf space ps → AllIn (suc (space_rank space)) (blocks_of hs ps)
+blocks_in hs space [] h = tt
+blocks_in hs space (p ∷ ps) h = (ap (λ s. suc (space_rank s)) h.0.of_space, blocks_in hs space ps h.1)
+
+-- ---- subs
 
 before_of_below : (r s : PlainRange) → r.first ≤ r.last → IsBelow r s → range_before r s ≡ true
 before_of_below r s order h =
@@ -339,6 +219,21 @@ apart_subs_rise : (hs : List (Holder × ℕ)) (ss : List (PlainRange × SubCard)
 apart_subs_rise hs [] h = tt
 apart_subs_rise hs (s ∷ ss) h = let parts = apart_parts s ss h in (subs_after hs s.0 ss parts.0.0 parts.1, subs_rise hs s.0 ss parts.1)
 
+subs_in_part : (hs : List (Holder × ℕ)) (ss : List (PlainRange × SubCard)) → AllIn 4 (map (sub_of hs) ss)
+subs_in_part hs [] = tt
+subs_in_part hs (s ∷ ss) = (refl, subs_in_part hs ss)
+
+-- ---- reverse cuts
+
+-- the cuts rise, and the first has this property
+abbrev CutsFrom : (PlainRange → Type 0) → List Object → Type 0
+CutsFrom P [] = Unit {0}
+CutsFrom P (o ∷ os) = (b : PlainRange) × (key_of o ≡ CutKey b) × P b × (b.first ≤ b.last) × CutsFrom (IsBelow b) os
+
+cuts_from_other : (P Q : PlainRange → Type 0) (os : List Object) → ((b : PlainRange) → P b → Q b) → CutsFrom P os → CutsFrom Q os
+cuts_from_other P Q [] h cuts = tt
+cuts_from_other P Q (o ∷ os) h cuts = (cuts.0, cuts.1, h cuts.0 cuts.2, cuts.3, cuts.4)
+
 cuts_after : (q : PlainRange) (os : List Object) → q.first ≤ q.last → CutsFrom (IsBelow q) os → IsBeforeAll (CutKey q) os
 cuts_after q [] order h = tt
 cuts_after q (o ∷ os) order h =
@@ -348,6 +243,58 @@ cuts_after q (o ∷ os) order h =
 cuts_rise_by_key : (P : PlainRange → Type 0) (os : List Object) → CutsFrom P os → RisesByKey os
 cuts_rise_by_key P [] h = tt
 cuts_rise_by_key P (o ∷ os) h = (subst (λ k. IsBeforeAll k os) (sym h.1) (cuts_after h.0 os h.3 h.4), cuts_rise_by_key (IsBelow h.0) os h.4)
+
+cuts_in : (P : PlainRange → Type 0) (os : List Object) → CutsFrom P os → AllIn 5 os
+cuts_in P [] cuts = tt
+cuts_in P (o ∷ os) cuts = (ap part_of cuts.1, cuts_in (IsBelow cuts.0) os cuts.4)
+
+-- a range that ends no later than another lies below whatever the other does
+ends_by : (b s c : PlainRange) → b.space ≡ s.space → b.last ≤ s.last → IsBelow s c → IsBelow b c
+ends_by b s c e h below =
+    let one : space_rank b.space ≡ space_rank s.space = ap space_rank e in
+    elim (below_cases s c below) [
+      | inl lt ↦ below_rank b c (omega arith)
+      | inr eq ↦ below_same b c (one ∙ eq.0) (let l = eq.1 in omega arith)
+    ]
+
+-- a range below another lies below each range of the other's numbers
+starts_behind : (q s b : PlainRange) → b.space ≡ s.space → s.first ≤ b.first → IsBelow q s → IsBelow q b
+starts_behind q s b e h below =
+    let one : space_rank b.space ≡ space_rank s.space = ap space_rank e in
+    elim (below_cases q s below) [
+      | inl lt ↦ below_rank q b (omega arith)
+      | inr eq ↦ below_same q b (eq.0 ∙ sym one) (let l = eq.1 in omega arith)
+    ]
+
+-- the cuts of one range, and then those of the ranges behind it
+cuts_then : (asked : ℕ → Bool) (P : PlainRange → Type 0) (s : PlainRange) (low end : ℕ) (bs : List PlainRange) (servers : List (List ℕ)) (rest : List Object)
+    → RiseIn asked s low end bs → ((b : PlainRange) → b.space ≡ s.space → s.first ≤ b.first → low ≤ b.first → P b)
+    → ((c : PlainRange) → IsBelow s c → P c) → CutsFrom (IsBelow s) rest → CutsFrom P (map (λ block. Cut block servers) bs ++ rest)
+cuts_then asked P s low end [] servers rest rises inner behind cuts = cuts_from_other (IsBelow s) P rest behind cuts
+cuts_then asked P s low end (b ∷ bs) servers rest rises inner behind cuts =
+    let found = rises.0 in (
+      b,
+      refl,
+      inner b found.of_space found.begins found.above,
+      found.order,
+      cuts_then asked (IsBelow b) s (b.last + 1) end bs servers rest rises.1
+          (λ c e h l. below_same b c (ap space_rank found.of_space ∙ sym (ap space_rank e)) (omega arith))
+          (λ c h. ends_by b s c found.of_space found.ends h) cuts,
+    )
+
+cuts_of_rising : (q : PlainRange) (ss : List (PlainRange × List (List ℕ))) → RisesAfter q ss → CutsFrom (IsBelow q) (flat_map cuts_of ss)
+cuts_of_rising q [] h = tt
+cuts_of_rising q (s ∷ ss) h =
+    cuts_then (is_cut_length s.0.space) (IsBelow q) s.0 0 (block_size s.0.space 0) (reverse_cuts s.0) s.1 (flat_map cuts_of ss) (cuts_rise s.0)
+    (λ b e k l. starts_behind q s.0 b e k h.0) (λ c k. below_through q s.0 c h.0 h.1.0 k) (cuts_of_rising s.0 ss h.2)
+
+cuts_of_apart : (ss : List (PlainRange × List (List ℕ))) → AreApart ss → CutsFrom (λ b. Unit {0}) (flat_map cuts_of ss)
+cuts_of_apart [] h = tt
+cuts_of_apart (s ∷ ss) h =
+    cuts_then (is_cut_length s.0.space) (λ b. Unit {0}) s.0 0 (block_size s.0.space 0) (reverse_cuts s.0) s.1 (flat_map cuts_of ss) (cuts_rise s.0)
+    (λ b e k l. tt) (λ c k. tt) (cuts_of_rising s.0 ss (apart_parts s ss h).1)
+
+-- ---- all objects
 
 pub whole_rises : (r : Register) → IsWholeRegister r → RisesByKey (objects_of r)
 whole_rises r h =
@@ -381,15 +328,5 @@ whole_rises r h =
     (apart_subs_rise hs r.subs h.subs_apart))
     (cuts_rise_by_key (λ x. Unit {0}) cuts all)
 
-pub next_changes_give : (r : Register) (e : PlainEntry) → IsWholeRegister r → IsNextEntry r e
-    → played (objects_of r) (changes_of r e) ≡ objects_of (after_entry r e)
-next_changes_give r e h next =
-    one_list (played (objects_of r) (changes_of r e)) (objects_of (after_entry r e)) (rises_played (objects_of r) (changes_of r e) (whole_rises r h))
-    (whole_rises (after_entry r e) (next_whole r e h next)) (λ k. next_changes_lead r e k h next)
-
-pub operations_give : (rooms : Rooms) (es : List PlainEntry) → IsLegal rooms es
-    → objects_after (operations_of rooms es) ≡ objects_of (register_after rooms es)
-operations_give rooms es legal =
-    one_list (objects_after (operations_of rooms es)) (objects_of (register_after rooms es))
-    (rises_played [] (map change_of (operations_of rooms es)) tt) (whole_rises (register_after rooms es) (legal_whole rooms es legal))
-    (λ k. operations_lead rooms es k legal)
+pub whole_is_distinct : (r : Register) → IsWholeRegister r → HaveDistinctKeys (objects_of r)
+whole_is_distinct r h = rising_is_distinct (objects_of r) (whole_rises r h)

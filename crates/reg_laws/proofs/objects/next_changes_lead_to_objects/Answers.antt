@@ -1,5 +1,4 @@
-use Rattle.reg_laws.proofs.DistinctKeys.{next_changes_lead}
-use Rattle.reg_laws.proofs.RisingKeys.{next_changes_give}
+use Rattle.reg_laws.proofs.Leading.{next_changes_lead, next_changes_give}
 use Rattle.reg_laws.proofs.objects.next_changes_lead_to_objects.Goals as goal
 
 pub returns : goal.returns

@@ -1,5 +1,4 @@
-use Rattle.reg_laws.proofs.DistinctKeys.{operations_lead}
-use Rattle.reg_laws.proofs.RisingKeys.{operations_give}
+use Rattle.reg_laws.proofs.Leading.{operations_lead, operations_give}
 use Rattle.reg_laws.proofs.objects.operations_lead_to_objects.Goals as goal
 
 pub returns : goal.returns

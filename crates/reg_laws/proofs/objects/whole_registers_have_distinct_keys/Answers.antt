@@ -1,4 +1,4 @@
-use Rattle.reg_laws.proofs.DistinctKeys.{whole_is_distinct}
+use Rattle.reg_laws.proofs.RisingKeys.{whole_is_distinct}
 use Rattle.reg_laws.proofs.objects.whole_registers_have_distinct_keys.Goals as goal
 
 pub returns : goal.returns
