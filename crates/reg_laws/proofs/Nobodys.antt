@@ -1,5 +1,5 @@
 -- Numbers that are received, reserved, unreserved or released are no holder's, before and after.
-use Rattle.std.proofs.Common.{◌≡◌, ℕ, ◌+◌, Bool, true, false, cond, ◌&&◌, List, Option, None, Some, MatchOption, refl, sym, ◌∙◌, subst, arith}
+use Rattle.std.proofs.Common.{◌≡◌, ℕ, ◌+◌, true, false, List, Option, None, Some, MatchOption, refl, sym, ◌∙◌, subst, arith}
 use Rattle.std.specs.Option.{option_map}
 use Rattle.std.proofs.lemmas.Bool.{both_ways}
 use Rattle.num_range.specs.declared.space.Space.{Space}
@@ -31,7 +31,7 @@ use Rattle.reg_laws.proofs.Conserving.{rules_behind, in_one, all_one}
 use Rattle.reg_laws.proofs.HoldingFacts.{next_held, next_allocated}
 use Rattle.reg_laws.proofs.NextFacts.{next_facts, right_status}
 use Rattle.reg_laws.proofs.RequestKeeps.{free_is_kept_back, of_status}
-use Rattle.reg_laws.proofs.UseFacts.{use_painted}
+use Rattle.reg_laws.proofs.UseFacts.{nothing_given, use_painted}
 
 -- nobody holds numbers by the card, or there is none
 abbrev IsNobodys : Option Card → Type 0
@@ -110,10 +110,6 @@ paints_nobodys r request day until start h valid early is = absurd (both_ways fa
 
 -- ---- what the card gives
 
-none_given : (b : Bool) (n : ℕ) → cond (b && false) n 0 ≡ 0
-none_given true n = refl
-none_given false n = refl
-
 not_allocated : (s : Status) → is_delegated s ≡ false → same_status s Allocated ≡ false
 not_allocated Available e = refl
 not_allocated Reserved e = refl
@@ -122,10 +118,10 @@ not_allocated Allocated e = absurd (both_ways true e refl)
 not_allocated Assigned e = refl
 
 none_held : (holder : ℕ) (space : Space) (range : PlainRange) (c : Card) → is_delegated c.status ≡ false → held_by_card holder space range c ≡ 0
-none_held holder space range c e = rw e (none_given _ _)
+none_held holder space range c e = rw e (sym (nothing_given _ _))
 
 none_allocated : (holder : ℕ) (space : Space) (range : PlainRange) (c : Card) → is_delegated c.status ≡ false → allocated_by_card holder space range c ≡ 0
-none_allocated holder space range c e = rw (not_allocated c.status e) (none_given _ _)
+none_allocated holder space range c e = rw (not_allocated c.status e) (sym (nothing_given _ _))
 
 none_held_by : (holder : ℕ) (space : Space) (range : PlainRange) (card : Option Card) → IsNobodys card → held_by holder space range card ≡ 0
 none_held_by holder space range None h = refl
@@ -137,7 +133,7 @@ none_allocated_by holder space range (Some c) h = none_allocated holder space ra
 
 none_used : (subs : List (PlainRange × SubCard)) (holder : ℕ) (space : Space) (range : PlainRange) (c : Card) → is_delegated c.status ≡ false
     → used_by_card subs holder space range c ≡ 0
-none_used subs holder space range c e = rw (not_allocated c.status e) (none_given _ _)
+none_used subs holder space range c e = rw (not_allocated c.status e) (sym (nothing_given _ _))
 
 none_used_by : (subs : List (PlainRange × SubCard)) (holder : ℕ) (space : Space) (range : PlainRange) (card : Option Card) → IsNobodys card
     → used_by subs holder space range card ≡ 0

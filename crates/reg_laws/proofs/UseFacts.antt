@@ -322,7 +322,7 @@ subs_moved r e range c holder space h is =
     (same_space range.space space && gives_allocated holder c) (same_space range.space space && gives_to holder (card_of r.pool (first_number range))))
     (λ s. false) r.subs (none_at_all r.subs) (λ s t k. sub_moved r e range c holder space s.0 is k) (subs_known r h)
 
-nothing_given : (b : Bool) (n : ℕ) → 0 ≡ share (b && false) n
+pub nothing_given : (b : Bool) (n : ℕ) → 0 ≡ share (b && false) n
 nothing_given true n = refl
 nothing_given false n = refl
 
