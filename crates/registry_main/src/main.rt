@@ -54,12 +54,12 @@ fn gate_of(rt: &HostRuntime) -> SocketGate<&HostRuntime> {
     }
 }
 
-/// Tells a person at a terminal which doors are to be served, since a service writes nothing until it ends.
+/// Tells a person at a terminal which doors are about to be opened, since a service writes nothing until it ends.
 fn tell_doors(rt: &HostRuntime, words: &[String]) {
     if let Ok(Some(Command::Serve { http, line, .. })) = Command::read(rt.alloc(), words) {
         if rt.stderr().is_terminal() {
             let _ = eprintln!(rt;
-                "serving HTTP at port {http} and lines at port {line}, until Ctrl-C; nothing is kept"
+                "about to serve HTTP at port {http} and lines at port {line}, until Ctrl-C; nothing is kept"
             );
         }
     }
