@@ -12,6 +12,7 @@ use crate::socket_way::SocketWay;
 use link_face::{Failed, SocketLink};
 use std::marker::Model;
 use std::net::{IpAddr, Ipv4Addr, Net, SocketAddr, TcpListener, TcpStream};
+use std::time::Clock;
 
 // The listener of one door and its port, once it listens, and how many ways were given there.
 #[derive(Drop)]
@@ -52,20 +53,20 @@ impl SocketDoor {
     }
 
     // A way at this door.
-    fn give<R: Net<Listener = TcpListener, Stream = TcpStream>>(
+    fn give<R: Net<Listener = TcpListener, Stream = TcpStream> + Clock + Copy + Drop>(
         &mut self,
         net: &R,
         host: Option<IpAddr>,
         door: Door,
         port: u16,
-    ) -> Option<SocketWay>
+    ) -> Option<SocketWay<R>>
         ensures given { MatchOption result (self.new.given ≡ self.old.given) (λ way. (self.new.given ≡ self.old.given + 1)
             × (way.door ≡ door) × (way.port ≡ port) × (way.faults ≡ 0)) }
         ensures host { host ≡ None → result ≡ None }
     {
         let listener = self.listener(net, host, port)?;
         self.given = self.given.checked_add(1)?;
-        Some(SocketWay::new(listener, door, port))
+        Some(SocketWay::new(*net, listener, door, port))
     }
 }
 
@@ -154,13 +155,14 @@ fn read_address(address: &str) -> Option<IpAddr>
     IpAddr::parse_ascii(address.as_bytes()).ok()
 }
 
-impl<R: Net<Listener = TcpListener, Stream = TcpStream> + Drop> Gate for SocketGate<R> {
+impl<R: Net<Listener = TcpListener, Stream = TcpStream> + Clock + Copy + Send + Drop> Gate
+    for SocketGate<R> {
     ghost use Rattle.std.specs.Prelude.{None};
     ghost use Rattle.door_face.specs.Doors.{at_door};
 
     type L = SocketLink;
 
-    type W = SocketWay;
+    type W = SocketWay<R>;
 
     ghost given = { λ g door. at_door g.http_given g.line_given door };
 
@@ -172,7 +174,7 @@ impl<R: Net<Listener = TcpListener, Stream = TcpStream> + Drop> Gate for SocketG
 
     ghost faults = { λ g. g.faults };
 
-    fn way(&mut self, door: Door, port: u16) -> Result<SocketWay, Failed>
+    fn way(&mut self, door: Door, port: u16) -> Result<SocketWay<R>, Failed>
         ensures place { IfOk result (λ way. (way.door ≡ door) × (way.port ≡ port)) }
         ensures fresh { IfOk result (λ way. way.faults ≡ 0) }
         ensures given { at_door self.new.http_given self.new.line_given door
@@ -197,7 +199,7 @@ impl<R: Net<Listener = TcpListener, Stream = TcpStream> + Drop> Gate for SocketG
         }
     }
 
-    fn done(&mut self, way: SocketWay) {
+    fn done(&mut self, way: SocketWay<R>) {
         if way.faults() > 0 {
             self.faults = self.faults.saturating_add(1);
         }

@@ -3,31 +3,39 @@ ghost use Rattle.std.specs.Prelude.{◌≡◌, IfOk};
 use crate::door::Door;
 use crate::way::Way;
 use link_face::{Failed, SocketLink};
-use std::io;
 use std::net::{TcpListener, TcpStream};
-use std::time::Duration;
+use std::time::{Clock, Duration};
+use std::{io, thread};
 
 /// How long a read or a write of an accepted link may wait: 30 seconds. Then it fails, so a client that
 /// is silent or slow to read loses its connection, and not a worker its day.
 pub const LINK_SECONDS: u64 = 30;
 
-/// The connections that come to a listening socket. It tells no number of them, and ends by a fault alone.
+/// How long a way waits before it asks again, where the system doesn't give the next connection now: a
+/// tenth of a second.
+pub const PAUSE_MILLIS: u64 = 100;
+
+/// The connections that come to a listening socket. It tells no number of them, and ends by a fault of the
+/// listener alone: a connection that is lost before it is a link is passed over, and where the system doesn't
+/// give the next one now, it is asked again after a pause of its clock.
 #[derive(Drop)]
-pub struct SocketWay {
+pub struct SocketWay<C: Clock + Drop> {
+    clock: C,
     listener: TcpListener,
     door: Door,
     port: u16,
     faults: u64,
 }
 
-impl SocketWay {
+impl<C: Clock + Drop> SocketWay<C> {
     /// A way over a handle of the door's listener.
-    pub fn new(listener: TcpListener, door: Door, port: u16) -> Self
+    pub fn new(clock: C, listener: TcpListener, door: Door, port: u16) -> Self
         ensures door { result.door ≡ door }
         ensures port { result.port ≡ port }
         ensures faults { result.faults ≡ 0 }
     {
         Self {
+            clock,
             listener,
             door,
             port,
@@ -43,16 +51,25 @@ impl SocketWay {
     }
 }
 
-// The next connection. One that its client gave up before it was accepted is passed over.
-fn next_stream(listener: &TcpListener) -> io::Result<TcpStream> {
-    for _ in 0..u64::MAX {
-        match listener.accept() {
-            Ok((stream, _)) => return Ok(stream),
-            Err(e) if e.kind() == io::ErrorKind::ConnectionAborted => {}
-            Err(e) => return Err(e),
-        }
+// Why there is no next connection.
+enum Missed {
+    // It was lost before it was accepted: the client gave it up, or the network failed it.
+    Lost,
+    // The system doesn't give it now: it has no descriptor or no memory for it, or a rule of its own against it.
+    NotNow,
+    // The listener gives none any more.
+    Closed,
+}
+
+// What accept(2) of Linux says by these numbers of errno(3).
+fn why_missed(error: &io::Error) -> Missed {
+    match error.raw_os_error() {
+        // ENONET, EPROTO, ENOPROTOOPT, EOPNOTSUPP, ENETDOWN, ENETUNREACH, ECONNABORTED, EHOSTDOWN, EHOSTUNREACH
+        Some(64 | 71 | 92 | 95 | 100 | 101 | 103 | 112 | 113) => Missed::Lost,
+        // EPERM, ENOMEM, ENFILE, EMFILE, ENOBUFS
+        Some(1 | 12 | 23 | 24 | 105) => Missed::NotNow,
+        _ => Missed::Closed,
     }
-    Err(io::Error::from(io::ErrorKind::Other))
 }
 
 fn limit_waits(stream: &TcpStream) -> io::Result<()> {
@@ -62,19 +79,38 @@ fn limit_waits(stream: &TcpStream) -> io::Result<()> {
     stream.set_nodelay(true)
 }
 
-fn next_link(listener: &TcpListener) -> Result<SocketLink, Failed>
+// A link over the connection. Where none can be made, the connection is closed.
+fn link_over(stream: TcpStream) -> Result<SocketLink, Failed>
     ensures { IfOk result (λ link. (link.source.faults ≡ 0) × (link.sink.faults ≡ 0)) }
 {
-    let Ok(stream) = next_stream(listener) else {
-        return Err(Failed);
-    };
     if limit_waits(&stream).is_err() {
         return Err(Failed);
     }
     SocketLink::new(stream)
 }
 
-impl Way for SocketWay {
+// The next link. What is no fault of the listener is passed over.
+fn next_link(clock: &impl Clock, listener: &TcpListener) -> Result<SocketLink, Failed>
+    ensures { IfOk result (λ link. (link.source.faults ≡ 0) × (link.sink.faults ≡ 0)) }
+{
+    for _ in 0..u64::MAX {
+        match listener.accept() {
+            Ok((stream, _)) => {
+                if let Ok(link) = link_over(stream) {
+                    return Ok(link);
+                }
+            }
+            Err(error) => match why_missed(&error) {
+                Missed::Lost => {}
+                Missed::NotNow => thread::sleep(clock, Duration::from_millis(PAUSE_MILLIS)),
+                Missed::Closed => return Err(Failed),
+            },
+        }
+    }
+    Err(Failed)
+}
+
+impl<C: Clock + Drop> Way for SocketWay<C> {
     ghost use Rattle.std.specs.Prelude.{None};
 
     type L = SocketLink;
@@ -92,7 +128,7 @@ impl Way for SocketWay {
     ghost faults = { λ w. w.faults };
 
     fn accept(&mut self) -> Result<Option<SocketLink>, Failed> {
-        match next_link(&self.listener) {
+        match next_link(&self.clock, &self.listener) {
             Ok(link) => Ok(Some(link)),
             Err(failed) => {
                 self.faults = self.faults.saturating_add(1);
