@@ -18,7 +18,11 @@ fn echo<L: Link>(link: &mut L) -> Result<(), Failed> {
 }
 
 // Whether the way's next connection, which a client opens at the address, sends back what it is sent.
-fn is_echoed(rt: &HostRuntime, way: &mut SocketWay<&HostRuntime>, address: SocketAddr) -> Result<bool, Fail> {
+fn is_echoed(
+    rt: &HostRuntime,
+    way: &mut SocketWay<&HostRuntime>,
+    address: SocketAddr,
+) -> Result<bool, Fail> {
     let mut client = TcpStream::connect(rt, address)?;
     client.write_all(TEXT)?;
     client.shutdown(Shutdown::Write)?;
