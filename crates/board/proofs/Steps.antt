@@ -27,7 +27,7 @@ use Rattle.reg_entry.specs.Whole.{IsWholeRegister}
 use Rattle.piece_book.specs.Book.{PlainBook}
 use Rattle.piece_book.specs.Cutting.{IsSplitPlace}
 use Rattle.holder_book.specs.Book.{PlainHolderBook}
-use Rattle.holding_book.specs.Book.{PlainHoldingBook, held_in, allocated_in, used_in, used_of, used_of_card}
+use Rattle.holder_book.specs.HoldingBook.{PlainHoldingBook, held_in, allocated_in, used_in, used_of, used_of_card}
 use Rattle.sub_book.specs.Book.{PlainRangeBook}
 use Rattle.reg_laws.specs.Use.{used_by, used_by_card}
 use Rattle.reg_entry.specs.Holdings.{held_by, held_by_card, allocated_by, allocated_by_card}

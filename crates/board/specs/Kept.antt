@@ -10,7 +10,7 @@ use Rattle.reg_entry.specs.Entry.{PlainEntry}
 use Rattle.reg_entry.specs.Next.{IsNextEntry}
 use Rattle.reg_entry.specs.Operations.{PlainBoard}
 use Rattle.reg_entry.specs.Whole.{IsWholeRegister}
-use Rattle.holding_book.specs.Book.{PlainHoldingBook, held_in, allocated_in, used_in}
+use Rattle.holder_book.specs.HoldingBook.{PlainHoldingBook, held_in, allocated_in, used_in}
 use Rattle.sub_book.specs.Book.{PlainRangeBook}
 use Rattle.piece_book.specs.Book.{PlainBook}
 use Rattle.holder_book.specs.Book.{PlainHolderBook}

@@ -5,8 +5,7 @@ ghost use Rattle.reg_laws.specs.Narrowest.{looked_up};
 
 use crate::books::{change_holders, change_holdings, change_pieces, change_reverse, change_subs};
 use crate::operations::Operations;
-use holder_book::HolderBook;
-use holding_book::HoldingBook;
+use holder_book::{HolderBook, HoldingBook};
 use num_range::{Range, Space};
 use op_feed::laws::{
     entries_reach_boards, next_changes, reached_boards_are_whole, reached_boards_number_operations,

@@ -15,11 +15,10 @@ ghost use Rattle.reg_laws.specs.Nobodys.{is_of_nobodys};
 ghost use Rattle.op_feed.specs.TouchedBy.{IsTouchedBy};
 ghost use Rattle.board.specs.Kept.{Rest, register_with, IsNextFor, AreHeldFor, AreHoldingsIn};
 ghost use Rattle.sub_book.specs.Book.{NoneStraddles, PlainRangeBook};
-ghost use Rattle.holding_book.specs.Book.{held_in, allocated_in, used_in, used_of, used_of_card};
+ghost use Rattle.holder_book.specs.HoldingBook.{held_in, allocated_in, used_in, used_of, used_of_card};
 
 use arrayvec::ArrayVec;
-use holder_book::HolderBook;
-use holding_book::HoldingBook;
+use holder_book::{HolderBook, HoldingBook};
 use num_range::Range;
 use piece_book::PieceBook;
 use reg_entry::{Card, Entry, Handle, Holder, Request, Servers, SubCard, Touched};

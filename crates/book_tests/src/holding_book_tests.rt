@@ -1,6 +1,6 @@
 ghost use Rattle.std.specs.Prelude.{◌≡◌};
 
-use holding_book::HoldingBook;
+use holder_book::HoldingBook;
 use num_range::{Range, Space};
 use reg_entry::{Card, Status};
 use std::test::Fail;

@@ -1,6 +1,6 @@
 //! What a window keeps.
 use num_range::{Range, Space};
-use op_window::OpWindow;
+use op_feed::OpWindow;
 use reg_entry::{
     Act, Card, Cc, Handle, Holder, Host, Kind, Object, Op, Piece, Servers, Status, Text,
 };

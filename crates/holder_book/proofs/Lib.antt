@@ -3,3 +3,4 @@ pub mod Numbers
 pub mod HandleKeys
 pub mod Indexing
 pub mod Keeping
+pub mod Counting

@@ -3,3 +3,4 @@ pub mod Numbered
 pub mod HandleKey
 pub mod Index
 pub mod Kept
+pub mod HoldingBook

@@ -8,3 +8,4 @@ pub mod HolderObjects
 pub mod NextChanges
 pub mod Fewness
 pub mod Boards
+mod Briefs

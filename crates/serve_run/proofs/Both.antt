@@ -17,8 +17,8 @@ use Rattle.door_face.specs.Duties.{EndsAs}
 use Rattle.snapshot_pub.specs.Pass.{PlainPass}
 use Rattle.desk_book.specs.Book.{PlainBook, first_pass}
 use Rattle.hall.specs.Desk.{among_others}
-use Rattle.door_duty.specs.Along.{PlainWay, HasEnded, with_more}
-use Rattle.door_duty.specs.Served.{HasServedConnection, HasServedLine, IsWorked}
+use Rattle.serve_run.specs.Along.{PlainWay, HasEnded, with_more}
+use Rattle.serve_run.specs.Served.{HasServedConnection, HasServedLine, IsWorked}
 use Rattle.serve_run.specs.Gate.{PlainGate, IsNewWay, IsFrontGiven, HasGiven}
 use Rattle.serve_run.specs.Duties.{AreDuties}
 use Rattle.serve_run.specs.Back.{PlainEnd, IsTold, IfWorked, AreTakenBack, came_back, end_by, most, record_of, worked_ends}

@@ -3,7 +3,7 @@ use Rattle.std.proofs.Common.{◌≡◌, ◌≢◌, ℕ, ◌+◌, List, [], ◌�
 use Rattle.std.proofs.lemmas.List.Elements.{All-head, All-nil, All-push, All-tail}
 use Rattle.door_face.specs.declared.door.Door.{Door}
 use Rattle.door_face.specs.Doors.{more_by}
-use Rattle.door_duty.specs.Along.{PlainWay}
+use Rattle.serve_run.specs.Along.{PlainWay}
 use Rattle.serve_run.specs.Gate.{PlainGate, IsNewWay, IsFrontGiven, HasGiven}
 use Rattle.serve_run.specs.Duties.{AreDuties}
 

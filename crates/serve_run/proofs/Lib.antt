@@ -1,3 +1,5 @@
+pub mod Chains
+pub mod Ends
 pub mod Giving
 pub mod Taking
 pub mod Both

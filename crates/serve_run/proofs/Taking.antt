@@ -9,7 +9,7 @@ use Rattle.door_face.specs.declared.outcome.Outcome.TheVariants.{Ended, Back}
 use Rattle.door_face.specs.Doors.{WayRecord, more_by, with_last}
 use Rattle.door_face.specs.Duties.{is_back}
 use Rattle.link_face.specs.Faults.{HasRisen}
-use Rattle.door_duty.specs.Along.{with_more}
+use Rattle.serve_run.specs.Along.{with_more}
 use Rattle.serve_run.specs.Gate.{PlainGate}
 use Rattle.serve_run.specs.declared.back.Tally.{Tally}
 use Rattle.serve_run.specs.Back.{PlainEnd, AreTakenBack, IfWorked, IsTold, came_back, end_by, most, record_of, worked_ends}

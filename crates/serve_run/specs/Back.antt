@@ -6,7 +6,7 @@ use Rattle.door_face.specs.declared.outcome.Outcome.{Outcome}
 use Rattle.door_face.specs.declared.outcome.Outcome.TheVariants.{Ended, Back}
 use Rattle.door_face.specs.Doors.{WayRecord, way_record, more_by}
 use Rattle.link_face.specs.Faults.{HasRisen}
-use Rattle.door_duty.specs.Along.{PlainWay, with_more}
+use Rattle.serve_run.specs.Along.{PlainWay, with_more}
 use Rattle.serve_run.specs.Gate.{PlainGate}
 use Rattle.serve_run.specs.declared.back.Tally.{Tally}
 

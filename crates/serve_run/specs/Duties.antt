@@ -1,7 +1,7 @@
 -- Duties that are made of ways and passes, one after another.
 use Rattle.std.specs.Prelude.{◌≡◌, ◌++◌, ℕ, All, List, map}
 use Rattle.door_face.specs.declared.door.Door.{Door}
-use Rattle.door_duty.specs.Along.{PlainWay}
+use Rattle.serve_run.specs.Along.{PlainWay}
 use Rattle.serve_run.specs.Gate.{PlainGate, HasGiven}
 
 -- The duties are made so: each of one more of the passes, with a way that was given at the door. These passes are left.

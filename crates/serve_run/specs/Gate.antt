@@ -2,7 +2,7 @@
 use Rattle.std.specs.Prelude.{◌≡◌, ◌≢◌, ◌+◌, ◌++◌, ℕ, All, List, [], Option, Some, IfSome, length, map}
 use Rattle.door_face.specs.declared.door.Door.{Door}
 use Rattle.door_face.specs.Doors.{WayRecord, more_by}
-use Rattle.door_duty.specs.Along.{PlainWay}
+use Rattle.serve_run.specs.Along.{PlainWay}
 
 -- how many ways were given at each door, how many links the ways to come have, how many ways are given and not back, those
 -- that are back, and how often it has failed

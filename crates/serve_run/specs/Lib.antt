@@ -1,3 +1,5 @@
+pub mod Along
+pub mod Served
 pub mod Gate
 pub mod Duties
 pub mod Back

@@ -10,8 +10,8 @@ use Rattle.door_face.specs.declared.door.Door.TheVariants.{Http, Line}
 use Rattle.door_face.specs.Doors.{LinkRecord, WayRecord}
 use Rattle.snapshot_pub.specs.Pass.{PlainPass}
 use Rattle.hall.specs.Desk.{among_others}
-use Rattle.door_duty.specs.Along.{AreServed, with_more}
-use Rattle.door_duty.specs.Served.{HasServedConnection, HasServedLine}
+use Rattle.serve_run.specs.Along.{AreServed, with_more}
+use Rattle.serve_run.specs.Served.{HasServedConnection, HasServedLine}
 use Rattle.serve_run.specs.Gate.{PlainGate}
 use Rattle.serve_run.specs.Back.{most}
 

@@ -3,14 +3,13 @@ ghost use Rattle.std.specs.Prelude.{◌≡◌, ◌≢◌, Some, ◌≤◌, ◌<�
 ghost use Rattle.std.specs.List.{list_any};
 ghost use Rattle.door_face.specs.Doors.{more_by};
 ghost use Rattle.door_face.specs.Duties.{is_back};
-ghost use Rattle.door_duty.specs.Along.{plain_way};
+ghost use Rattle.serve_run.specs.Along.{plain_way};
 ghost use Rattle.link_face.specs.Faults.{HasRisen};
 ghost use Rattle.serve_run.specs.Gate.{PlainGate, plain_gate};
 ghost use Rattle.serve_run.specs.Back.{PlainEnd, plain_end, end_by, IsTold, IfWorked, AreTakenBack};
 ghost use Rattle.serve_run.specs.declared.fault.ServeFault.TheVariants.{NoMemory, Gate as GateFault, Spawn};
 
-use crate::ServeFault;
-use door_duty::Served;
+use crate::{ServeFault, Served};
 use door_face::{Gate, Outcome};
 
 /// What was taken back so far.

@@ -2,15 +2,14 @@
 ghost use Rattle.std.specs.Prelude.{◌≡◌, ◌≢◌, [], All, IfOk, Err};
 ghost use Rattle.door_face.specs.declared.door.Door.TheVariants.{Http as AtHttp, Line as AtLine};
 ghost use Rattle.link_face.specs.Faults.{HasRisen};
-ghost use Rattle.door_duty.specs.Along.{plain_way};
-ghost use Rattle.door_duty.specs.declared.door_duty.DoorDuty.TheVariants.{Http, Line};
+ghost use Rattle.serve_run.specs.Along.{plain_way};
+ghost use Rattle.serve_run.specs.declared.door_duty.DoorDuty.TheVariants.{Http, Line};
 ghost use Rattle.serve_run.specs.Gate.{plain_gate};
 ghost use Rattle.serve_run.specs.Duties.{AreDuties};
 ghost use Rattle.serve_run.specs.declared.fault.ServeFault.TheVariants.{Gate as GateFault, Spawn};
 
-use crate::ServeFault;
+use crate::{DoorDuty, HttpDuty, LineDuty, ServeFault};
 use desk_book::{Desk, Naming};
-use door_duty::{DoorDuty, HttpDuty, LineDuty};
 use door_face::{Door, Gate};
 use link_face::{Clock, Failed};
 use policy_table::Policy;

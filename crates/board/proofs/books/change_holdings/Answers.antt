@@ -14,7 +14,7 @@ use Rattle.reg_entry.specs.Whole.{IsWholeRegister}
 use Rattle.reg_entry.specs.Holdings.{held_by, allocated_by, held_by_card, allocated_by_card}
 use Rattle.reg_laws.specs.Nobodys.{is_of_nobodys}
 use Rattle.reg_laws.specs.Use.{used_by}
-use Rattle.holding_book.specs.Book.{held_in, allocated_in, used_in, used_of, used_of_card}
+use Rattle.holder_book.specs.HoldingBook.{held_in, allocated_in, used_in, used_of, used_of_card}
 use Rattle.board.specs.Kept.{register_with, AreHoldingsIn}
 use Rattle.board.proofs.Known.{known_holders}
 use Rattle.board.proofs.Steps.{entry_in, bare_card, unchanged_holdings, exchanged_holdings, added_count, same_length, same_subs, used_holdings, taken_use, taken_sub, given_use, used_below, assigned_fits, now_used, no_longer_used, fits_in}

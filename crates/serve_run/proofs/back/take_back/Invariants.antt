@@ -1,6 +1,6 @@
 use Rattle.std.specs.Prelude.{◌≤◌, All, IfSome, length, map}
 use Rattle.std.specs.Vec.Iter.{into_iter_items}
-use Rattle.door_duty.specs.Along.{plain_way}
+use Rattle.serve_run.specs.Along.{plain_way}
 use Rattle.serve_run.specs.Gate.{plain_gate}
 use Rattle.serve_run.specs.Back.{plain_end, end_by, IsTold, IfWorked}
 use Rattle.serve_run.proofs.Taking.{AreTakenOf}

@@ -1,8 +1,8 @@
 use Rattle.std.specs.Prelude.{◌≡◌, ◌+◌, ◌≤◌, vec_len, vec_capacity}
 use Rattle.std.specs.Vec.Iter.{into_iter_items, into_iter_len}
 use Rattle.door_face.specs.declared.door.Door.TheVariants.{Line as AtLine}
-use Rattle.door_duty.specs.Along.{plain_way}
-use Rattle.door_duty.specs.declared.door_duty.DoorDuty.TheVariants.{Line}
+use Rattle.serve_run.specs.Along.{plain_way}
+use Rattle.serve_run.specs.declared.door_duty.DoorDuty.TheVariants.{Line}
 use Rattle.serve_run.specs.Gate.{plain_gate}
 use Rattle.serve_run.specs.Duties.{AreDuties}
 use Rattle.serve_run.proofs.duties.line_duties.Given as goal

@@ -1,8 +1,8 @@
 use Rattle.std.proofs.Common.{◌∙◌, map, subst}
 use Rattle.link_face.specs.Faults.{HasRisen}
 use Rattle.hall.specs.Desk.{among_others}
-use Rattle.door_duty.specs.Along.{plain_way}
-use Rattle.door_duty.specs.Served.{HasServedConnection, HasServedLine}
+use Rattle.serve_run.specs.Along.{plain_way}
+use Rattle.serve_run.specs.Served.{HasServedConnection, HasServedLine}
 use Rattle.serve_run.specs.Back.{plain_end}
 use Rattle.serve_run.specs.Service.{pass_of_none}
 use Rattle.serve_run.proofs.Both.{AreLeft, all_leave, all_served, both_told, http_leaves, length_by, line_leaves, ok_of, ways_are_lent}

@@ -1,5 +1,0 @@
-use Rattle.door_duty.proofs.Chains.{worked}
-use Rattle.door_duty.proofs.http_duty.HttpDuty.work.Goals as goal
-
-pub returns : goal.returns
-returns g c = worked _ (λ before end after it. it.2.more) _ _ _ _ _ _ c.is_legal.ensures c.serve_way-end.ensures
