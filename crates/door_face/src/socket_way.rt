@@ -3,8 +3,9 @@ ghost use Rattle.std.specs.Prelude.{◌≡◌, IfOk};
 use crate::door::Door;
 use crate::way::Way;
 use link_face::{Failed, SocketLink};
-use std::net::{TcpListener, TcpStream};
-use std::time::{Clock, Duration};
+use std::io::Read;
+use std::net::{Shutdown, TcpListener, TcpStream};
+use std::time::{Clock, Duration, Instant};
 use std::{io, thread};
 
 /// How long a read or a write of an accepted link may wait: 30 seconds. Then it fails, so a client that
@@ -15,15 +16,26 @@ pub const LINK_SECONDS: u64 = 30;
 /// tenth of a second.
 pub const PAUSE_MILLIS: u64 = 100;
 
+/// How long a link that is closed waits for more of what its client sends: a second.
+pub const SILENCE_MILLIS: u64 = 1_000;
+
+/// For how long it takes in what its client sends: four seconds, and the second behind the last read.
+pub const CLOSING_MILLIS: u64 = 4_000;
+
 /// The connections that come to a listening socket. It tells no number of them, and ends by a fault of the
 /// listener alone: a connection that is lost before it is a link is passed over, and where the system doesn't
 /// give the next one now, it is asked again after a pause of its clock.
+///
+/// A link that is taken back is closed in two steps (RFC 9112 9.6), so that what was written to it arrives also
+/// where the client has sent more than was read.
 #[derive(Drop)]
 pub struct SocketWay<C: Clock + Drop> {
     clock: C,
     listener: TcpListener,
     door: Door,
     port: u16,
+    // A handle of the link that was given last, to close it by.
+    last: Option<TcpStream>,
     faults: u64,
 }
 
@@ -39,6 +51,7 @@ impl<C: Clock + Drop> SocketWay<C> {
             listener,
             door,
             port,
+            last: None,
             faults: 0,
         }
     }
@@ -79,25 +92,28 @@ fn limit_waits(stream: &TcpStream) -> io::Result<()> {
     stream.set_nodelay(true)
 }
 
-// A link over the connection. Where none can be made, the connection is closed.
-fn link_over(stream: TcpStream) -> Result<SocketLink, Failed>
-    ensures { IfOk result (λ link. (link.source.faults ≡ 0) × (link.sink.faults ≡ 0)) }
+// A link over the connection, and one more handle of it. Where these can't be made, the connection is closed.
+fn link_over(stream: TcpStream) -> Result<(SocketLink, TcpStream), Failed>
+    ensures { IfOk result (λ given. (given.0.source.faults ≡ 0) × (given.0.sink.faults ≡ 0)) }
 {
     if limit_waits(&stream).is_err() {
         return Err(Failed);
     }
-    SocketLink::new(stream)
+    let Ok(last) = stream.try_clone() else {
+        return Err(Failed);
+    };
+    Ok((SocketLink::new(stream)?, last))
 }
 
-// The next link. What is no fault of the listener is passed over.
-fn next_link(clock: &impl Clock, listener: &TcpListener) -> Result<SocketLink, Failed>
-    ensures { IfOk result (λ link. (link.source.faults ≡ 0) × (link.sink.faults ≡ 0)) }
+// The next link, and one more handle of it. What is no fault of the listener is passed over.
+fn next_link(clock: &impl Clock, listener: &TcpListener) -> Result<(SocketLink, TcpStream), Failed>
+    ensures { IfOk result (λ given. (given.0.source.faults ≡ 0) × (given.0.sink.faults ≡ 0)) }
 {
     for _ in 0..u64::MAX {
         match listener.accept() {
             Ok((stream, _)) => {
-                if let Ok(link) = link_over(stream) {
-                    return Ok(link);
+                if let Ok(given) = link_over(stream) {
+                    return Ok(given);
                 }
             }
             Err(error) => match why_missed(&error) {
@@ -108,6 +124,34 @@ fn next_link(clock: &impl Clock, listener: &TcpListener) -> Result<SocketLink, F
         }
     }
     Err(Failed)
+}
+
+// Whether less time than this went by. A clock that can't be read says no.
+fn is_within(clock: &impl Clock, start: Instant, most: Duration) -> bool {
+    match start.elapsed(clock) {
+        Ok(time) => time < most,
+        Err(_) => false,
+    }
+}
+
+// Tells the client that no more comes, and throws away what it still sends, up to its own end, a silence or the end of
+// the time. A connection that is closed with bytes unread is reset, and the client may lose what it hasn't read yet.
+fn close(clock: &impl Clock, mut stream: TcpStream) {
+    let silence = Some(Duration::from_millis(SILENCE_MILLIS));
+    let most = Duration::from_millis(CLOSING_MILLIS);
+    if stream.shutdown(Shutdown::Write).is_err() || stream.set_read_timeout(silence).is_err() {
+        return;
+    }
+    let Ok(start) = Instant::now(clock) else {
+        return;
+    };
+    let mut buf = [0; 4_096];
+    for _ in 0..u64::MAX {
+        match stream.read(&mut buf) {
+            Ok(count) if 0 < count && is_within(clock, start, most) => {}
+            _ => return,
+        }
+    }
 }
 
 impl<C: Clock + Drop> Way for SocketWay<C> {
@@ -129,7 +173,10 @@ impl<C: Clock + Drop> Way for SocketWay<C> {
 
     fn accept(&mut self) -> Result<Option<SocketLink>, Failed> {
         match next_link(&self.clock, &self.listener) {
-            Ok(link) => Ok(Some(link)),
+            Ok((link, last)) => {
+                self.last = Some(last);
+                Ok(Some(link))
+            }
             Err(failed) => {
                 self.faults = self.faults.saturating_add(1);
                 Err(failed)
@@ -137,8 +184,10 @@ impl<C: Clock + Drop> Way for SocketWay<C> {
         }
     }
 
-    // The connection is closed.
     fn done(&mut self, link: SocketLink) {
         drop(link);
+        if let Some(last) = self.last.take() {
+            close(&self.clock, last);
+        }
     }
 }
