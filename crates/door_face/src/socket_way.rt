@@ -26,16 +26,18 @@ pub const CLOSING_MILLIS: u64 = 4_000;
 /// listener alone: a connection that is lost before it is a link is passed over, and where the system doesn't
 /// give the next one now, it is asked again after a pause of its clock.
 ///
-/// A link that is taken back is closed in two steps (RFC 9112 9.6), so that what was written to it arrives also
-/// where the client has sent more than was read.
+/// A link that is taken back before the next one is given is closed in two steps (RFC 9112 9.6), so that what was
+/// written to it arrives also where the client has sent more than was read.
 #[derive(Drop)]
 pub struct SocketWay<C: Clock + Drop> {
     clock: C,
     listener: TcpListener,
     door: Door,
     port: u16,
-    // A handle of the link that was given last, to close it by.
-    last: Option<TcpStream>,
+    // How many links aren't back yet.
+    out: u64,
+    // A handle of the one link that is out, to close it by. Where more are out, none: a link doesn't say whose it is.
+    only: Option<TcpStream>,
     faults: u64,
 }
 
@@ -51,7 +53,8 @@ impl<C: Clock + Drop> SocketWay<C> {
             listener,
             door,
             port,
-            last: None,
+            out: 0,
+            only: None,
             faults: 0,
         }
     }
@@ -99,10 +102,10 @@ fn link_over(stream: TcpStream) -> Result<(SocketLink, TcpStream), Failed>
     if limit_waits(&stream).is_err() {
         return Err(Failed);
     }
-    let Ok(last) = stream.try_clone() else {
+    let Ok(handle) = stream.try_clone() else {
         return Err(Failed);
     };
-    Ok((SocketLink::new(stream)?, last))
+    Ok((SocketLink::new(stream)?, handle))
 }
 
 // The next link, and one more handle of it. What is no fault of the listener is passed over.
@@ -173,8 +176,9 @@ impl<C: Clock + Drop> Way for SocketWay<C> {
 
     fn accept(&mut self) -> Result<Option<SocketLink>, Failed> {
         match next_link(&self.clock, &self.listener) {
-            Ok((link, last)) => {
-                self.last = Some(last);
+            Ok((link, handle)) => {
+                self.only = if self.out == 0 { Some(handle) } else { None };
+                self.out = self.out.saturating_add(1);
                 Ok(Some(link))
             }
             Err(failed) => {
@@ -186,8 +190,9 @@ impl<C: Clock + Drop> Way for SocketWay<C> {
 
     fn done(&mut self, link: SocketLink) {
         drop(link);
-        if let Some(last) = self.last.take() {
-            close(&self.clock, last);
+        self.out = self.out.saturating_sub(1);
+        if let Some(handle) = self.only.take() {
+            close(&self.clock, handle);
         }
     }
 }
