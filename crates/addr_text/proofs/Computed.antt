@@ -7,11 +7,11 @@ use Rattle.std.specs.Net.Addr.{octets_of}
 use Rattle.std.specs.Net.Grammar.{IsDotted, IsColonHex}
 use Rattle.std.specs.Net.Reader.{Read, whole_value, read_ipv4, read_ipv6}
 use Rattle.std.proofs.lemmas.Slice.Eq.{bytes_eq-Decides}
-use Rattle.std.proofs.lemmas.Bool.{leb-true, le-leb}
+use Rattle.std.proofs.lemmas.Bool.{cond-true, leb-true, le-leb}
 use Rattle.std.proofs.lemmas.Bool.Decides.{Decides-and, Decides-eqb, Decides-like, not_from_Decides}
 use Rattle.std.proofs.lemmas.Fmt.{decimal_is_IsNumeral, decimal_injective}
 use Rattle.std.specs.Bool.{Decides}
-use Rattle.std.proofs.lemmas.Option.{none-some}
+use Rattle.std.proofs.lemmas.Option.{cond_some, none-some}
 use Rattle.std.proofs.NetLemmas.Options.{same_parts}
 use Rattle.std.proofs.lemmas.List.Elements.{All-nil, All-cons}
 use Rattle.std.proofs.NetLemmas.Ipv4.{read_ipv4_complete, read_ipv4_sound}
@@ -88,6 +88,23 @@ decimal_spelled most text fits =
     λ none n h.
     let same : v ≡ n = ap (digits_value 10) h.0 ∙ (decimal_is_IsNumeral n (omega (arith, h.1))).1 in
     none (ap decimal same ∙ sym h.0, omega (arith, h.1))
+
+-- the number that a text is the decimal of is the one that its digits are worth
+pub decimal_found : (most n : ℕ) (text : List ℕ) → text ≡ decimal n → n ≤ most → most < 2 ^ 64 → decimal_up_to most text ≡ Some n
+decimal_found most n text e below fits =
+    let v = digits_value 10 text in
+    let same : v ≡ n = ap (digits_value 10) e ∙ (decimal_is_IsNumeral n (omega arith)).1 in
+    let written : decimal v ≡ text = ap decimal same ∙ sym e in
+    let most_is : v ≤ most = omega (arith, same) in
+    cond-true _ (Some v) None ((Decides-and _ _ (bytes_eq-Decides (decimal v) text) (leb-true v most, le-leb v most)).1 (written, most_is))
+    ∙ ap Some same
+
+pub decimal_read : (most n : ℕ) (text : List ℕ) → decimal_up_to most text ≡ Some n → (text ≡ decimal n) × (n ≤ most)
+decimal_read most n text e =
+    let v = digits_value 10 text in
+    let (tests, same) = cond_some _ v n e in
+    let both = (Decides-and _ _ (bytes_eq-Decides (decimal v) text) (leb-true v most, le-leb v most)).0 tests in
+    (sym both.0 ∙ ap decimal same, omega (arith, both.1, same))
 
 -- ---- addresses
 

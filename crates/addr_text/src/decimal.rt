@@ -1,9 +1,10 @@
 //! Plain decimal: no sign, no leading zero.
-ghost use Rattle.std.specs.Prelude.{◌≡◌, ◌≢◌, ℕ, ◌<◌, ◌≤◌, ◌+◌, ◌^◌, ◌-◌, ◌↔◌, ◌++◌, length, decimal, IsTrue, IfSome, IfNone, slice_index};
+ghost use Rattle.std.specs.Prelude.{◌≡◌, ◌≢◌, ℕ, ◌<◌, ◌≤◌, ◌+◌, ◌^◌, ◌-◌, ◌↔◌, ◌++◌, length, decimal, Some, IsTrue, IfSome, IfNone, slice_index};
 ghost use Rattle.addr_text.specs.Reading.{decimal_up_to};
 ghost use Rattle.arrayvec.specs.ArrayVec.{array_vec_len};
 
 use arrayvec::ArrayVec;
+use itoa::Buffer;
 
 /// Whether no sign stands first, and no `0` where more digits follow.
 fn has_plain_start(text: &[u8]) -> bool
@@ -38,6 +39,28 @@ pub fn read_decimal(text: &[u8]) -> Option<u32>
     ensures none { IfNone result ((n : ℕ) → n < 2 ^ 32 → text.now ≢ decimal n) }
 {
     find_decimal(text)
+}
+
+/// The number of 64 bits that the text is the decimal of, or any number or none where it is no such decimal.
+fn parse_long(text: &[u8]) -> Option<u64>
+    ensures { (n : ℕ) → n < 2 ^ 64 → text.now ≡ decimal n → result ≡ Some n }
+{
+    let Ok(digits) = str::from_utf8(text) else {
+        return None;
+    };
+    digits.parse().ok()
+}
+
+/// The number of 64 bits that the text is the decimal of, without sign or leading zero.
+pub fn read_long_decimal(text: &[u8]) -> Option<u64>
+    ensures { result ≡ decimal_up_to (2 ^ 64 - 1) text.now }
+{
+    let number = parse_long(text)?;
+    let mut buffer = Buffer::new();
+    if buffer.format(number).as_bytes() != text {
+        return None;
+    }
+    Some(number)
 }
 
 /// Appends the number's decimal.

@@ -5,7 +5,7 @@ ghost use Rattle.std.specs.Net.Text as Text;
 ghost use Rattle.arrayvec.specs.ArrayVec.{array_vec_len};
 ghost use Rattle.addr_text.specs.Address.{groups_of};
 
-use crate::append::append;
+use crate::fitting::append;
 use arrayvec::ArrayVec;
 use std::net::Ipv6Addr;
 

@@ -5,8 +5,8 @@ ghost use Rattle.addr_text.specs.Reading.{number_of};
 ghost use Rattle.arrayvec.specs.ArrayVec.{array_vec_len};
 
 use crate::address::{push_ipv4, read_addr};
-use crate::append::append;
 use crate::decimal::{push_decimal, read_decimal};
+use crate::fitting::append;
 use crate::ipv6::push_ipv6;
 use arrayvec::ArrayVec;
 use num_range::{Number, Space};

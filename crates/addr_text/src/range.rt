@@ -4,8 +4,8 @@ ghost use Rattle.addr_text.specs.Range.{IsOneNumber, IsWholeBlock, IsFirstToLast
 ghost use Rattle.addr_text.specs.Reading.{range_of};
 ghost use Rattle.arrayvec.specs.ArrayVec.{array_vec_len};
 
-use crate::append::append;
 use crate::block::read_block;
+use crate::fitting::append;
 use crate::number::{read_number, write_number};
 use crate::parted::parted_at;
 use arrayvec::ArrayVec;

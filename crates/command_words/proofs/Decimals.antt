@@ -1,33 +1,15 @@
 -- Decimals up to a greatest number, from 0 or from 1, none of which begins with `-`.
 use Rattle.std.proofs.Common.{◌≡◌, ℕ, ◌^◌, ◌≤◌, ◌<◌, ◌==◌, List, [], ◌∷◌, Bool, cond, true, false, true≢false, ne_eqb, Option, Some, None, decimal, refl, sym, ap, ◌∙◌, subst, arith}
-use Rattle.std.proofs.lemmas.Bool.{cond-false, cond-true, eqb-false, leb-true, le-leb}
-use Rattle.std.proofs.lemmas.Bool.Decides.{Decides-and}
+use Rattle.std.proofs.lemmas.Bool.{cond-false, eqb-false}
 use Rattle.std.proofs.lemmas.Fmt.{decimal_is_IsNumeral}
-use Rattle.std.proofs.lemmas.Option.{cond_some, none-some, option_and_then_some, same_Some}
-use Rattle.std.proofs.lemmas.Slice.Eq.{bytes_eq-Decides}
+use Rattle.std.proofs.lemmas.Option.{none-some, option_and_then_some, same_Some}
 use Rattle.std.specs.Char.{digit_value}
 use Rattle.std.specs.Option.{option_and_then}
-use Rattle.std.specs.Str.Parse.{AllDigits, digits_value}
+use Rattle.std.specs.Str.Parse.{AllDigits}
+use Rattle.addr_text.proofs.Computed.{decimal_found, decimal_read}
 use Rattle.addr_text.specs.Reading.{decimal_up_to}
 use Rattle.command_words.specs.Command.{IsPositiveUpTo, not_zero, positive_up_to}
 use Rattle.command_words.specs.Table.{begins_with_hyphen}
-
--- the number that a text is the decimal of is the one that its digits are worth
-pub decimal_found : (most n : ℕ) (text : List ℕ) → text ≡ decimal n → n ≤ most → most < 2 ^ 64 → decimal_up_to most text ≡ Some n
-decimal_found most n text e below fits =
-    let v = digits_value 10 text in
-    let same : v ≡ n = ap (digits_value 10) e ∙ (decimal_is_IsNumeral n (omega arith)).1 in
-    let written : decimal v ≡ text = ap decimal same ∙ sym e in
-    let most_is : v ≤ most = omega (arith, same) in
-    cond-true _ (Some v) None ((Decides-and _ _ (bytes_eq-Decides (decimal v) text) (leb-true v most, le-leb v most)).1 (written, most_is))
-    ∙ ap Some same
-
-pub decimal_spelled : (most n : ℕ) (text : List ℕ) → decimal_up_to most text ≡ Some n → (text ≡ decimal n) × (n ≤ most)
-decimal_spelled most n text e =
-    let v = digits_value 10 text in
-    let (tests, same) = cond_some _ v n e in
-    let both = (Decides-and _ _ (bytes_eq-Decides (decimal v) text) (leb-true v most, le-leb v most)).0 tests in
-    (sym both.0 ∙ ap decimal same, omega (arith, both.1, same))
 
 digits_are_plain : (text : List ℕ) → AllDigits 10 text → begins_with_hyphen text ≡ false
 digits_are_plain [] digits = refl
@@ -40,7 +22,7 @@ hyphen_is_none most text fits hyphen = go (decimal_up_to most text) refl
     go : (found : Option ℕ) → decimal_up_to most text ≡ found → found ≡ None
     go None e = refl
     go (Some n) e =
-        let spelled = decimal_spelled most n text e in
+        let spelled = decimal_read most n text e in
         let below : n < 2 ^ 64 = omega (arith, spelled.1) in
         absurd (true≢false (sym hyphen ∙ ap begins_with_hyphen spelled.0 ∙ digits_are_plain (decimal n) (decimal_is_IsNumeral n below).0.1))
 
@@ -65,7 +47,7 @@ pub positive_spelled : (most n : ℕ) (text : List ℕ) → positive_up_to most 
 positive_spelled most n text e =
     option_and_then_some not_zero (decimal_up_to most text) n e λ m found kept.
     let is = is_kept m n kept in
-    let spelled = decimal_spelled most n text (found ∙ ap Some is.1) in
+    let spelled = decimal_read most n text (found ∙ ap Some is.1) in
     (spelled.0, (is.0, spelled.1))
 
 pub hyphen_is_no_positive : (most : ℕ) (text : List ℕ) → most < 2 ^ 64 → begins_with_hyphen text ≡ true → positive_up_to most text ≡ None

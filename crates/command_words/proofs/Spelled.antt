@@ -8,7 +8,8 @@ use Rattle.command_words.specs.declared.command.Command.{Command}
 use Rattle.command_words.specs.declared.command.Command.TheVariants.{Batch, Serve, Publish, Mirror, Load}
 use Rattle.command_words.specs.declared.command.Publication.TheVariants.{Statistics, Zones}
 use Rattle.command_words.specs.Command.{IsInBounds, IsPositiveUpTo, alone, command_of, load_by, load_of, positive_up_to, serve_by, serve_of, words_of}
-use Rattle.command_words.proofs.Decimals.{decimal_found, decimal_spelled, positive_found, positive_spelled}
+use Rattle.addr_text.proofs.Computed.{decimal_found, decimal_read}
+use Rattle.command_words.proofs.Decimals.{positive_found, positive_spelled}
 use Rattle.command_words.proofs.Commands.{by_rows, is_no_command}
 
 abbrev IsSpelled : List Text → Command → Type 0
@@ -46,8 +47,8 @@ unfolding load_by
 load_spelled seed requests command e =
     option_and_then_some _ (decimal_up_to (2 ^ 64 - 1) seed) command e λ s seed_is rest.
     option_and_then_some _ (decimal_up_to 900000 requests) command rest λ n requests_are rest.
-    let a = decimal_spelled (2 ^ 64 - 1) s seed seed_is in
-    let b = decimal_spelled 900000 n requests requests_are in
+    let a = decimal_read (2 ^ 64 - 1) s seed seed_is in
+    let b = decimal_read 900000 n requests requests_are in
     subst (IsSpelled (codes "load" ∷ seed ∷ requests ∷ [])) (same_Some (Load s n) command rest)
     (ap₂ (λ x y. codes "load" ∷ x ∷ y ∷ []) a.0 b.0, (omega (arith, a.1), b.1))
 

@@ -7,8 +7,9 @@ ghost use Rattle.clap.specs.Words.{rows_of, found_of, first_of, subcommand_rows_
 ghost use Rattle.command_words.specs.Command.{command_of, load_by, serve_by};
 ghost use Rattle.command_words.specs.Table.{begins_with_hyphen, command_in_row, command_met, load_in, serve_in};
 
-use crate::number::{read_number, read_number_up_to, read_port, read_workers};
+use crate::number::{read_number_up_to, read_port, read_workers};
 use crate::table::table;
+use addr_text::read_long_decimal;
 use clap::ArgMatches;
 use clap::error::ErrorKind;
 use std::alloc::{AllocError, Global};
@@ -95,7 +96,7 @@ fn read_serve_of(texts: &ArgMatches<'_>) -> Option<Command>
 fn read_load(seed: &[u8], requests: &[u8]) -> Option<Command>
     ensures { result ≡ load_by seed.now requests.now }
 {
-    let seed = read_number(seed)?;
+    let seed = read_long_decimal(seed)?;
     let requests = read_number_up_to(requests, MOST_REQUESTS)?;
     Some(Command::Load { seed, requests })
 }

@@ -1,38 +1,15 @@
 //! Numbers in plain decimal: no sign, no leading zero.
-ghost use Rattle.std.specs.Prelude.{◌≡◌, ℕ, ◌^◌, ◌-◌, ◌<◌, Some, decimal};
+ghost use Rattle.std.specs.Prelude.{◌≡◌};
 ghost use Rattle.addr_text.specs.Reading.{decimal_up_to};
 ghost use Rattle.command_words.specs.Command.{positive_up_to};
 
 use addr_text::read_decimal;
-use itoa::Buffer;
 
 /// The greatest port.
 const MOST_PORT: u32 = 65_535;
 
 /// The greatest number of workers of a door.
 const MOST_WORKERS: u32 = 16;
-
-/// The number of 64 bits that the text is the decimal of, or any number or none where it is no such decimal.
-fn parse_number(text: &[u8]) -> Option<u64>
-    ensures { (n : ℕ) → n < 2 ^ 64 → text.now ≡ decimal n → result ≡ Some n }
-{
-    let Ok(digits) = str::from_utf8(text) else {
-        return None;
-    };
-    digits.parse().ok()
-}
-
-/// The number of 64 bits that the text is the decimal of.
-pub(crate) fn read_number(text: &[u8]) -> Option<u64>
-    ensures { result ≡ decimal_up_to (2 ^ 64 - 1) text.now }
-{
-    let number = parse_number(text)?;
-    let mut buffer = Buffer::new();
-    if buffer.format(number).as_bytes() != text {
-        return None;
-    }
-    Some(number)
-}
 
 /// The number up to a greatest one that the text is the decimal of.
 pub(crate) fn read_number_up_to(text: &[u8], most: u32) -> Option<u32>

@@ -6,7 +6,8 @@ ghost use Rattle.reg_entry.specs.Days.{last_date};
 ghost use Rattle.delegated_ext.specs.StatisticsText.{type_word, status_word, start_text, prefix_length, value_text, date_text, holder_of, country_text, opaque_text, record_text};
 
 use crate::RecordLine;
-use crate::append::{append, append_day, append_decimal, append_name, append_number};
+use crate::append::{append_day, append_name};
+use addr_text::{append, append_decimal, append_number};
 use arrayvec::ArrayVec;
 use holder_book::HolderBook;
 use num_range::{Number, Space};

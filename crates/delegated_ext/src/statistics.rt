@@ -4,10 +4,11 @@ ghost use Rattle.num_range.specs.declared.space.Space.TheVariants.{Asn as TheAsn
 ghost use Rattle.delegated_ext.specs.Records.{record_lines};
 ghost use Rattle.delegated_ext.specs.StatisticsText.{version_line, summary_line, summary_of, statistics_text};
 
-use crate::append::{append, append_day, append_decimal, append_name};
+use crate::append::{append_day, append_name};
 use crate::record_count::count_records;
 use crate::record_text::type_word;
 use crate::records::append_records;
+use addr_text::{append, append_decimal};
 use arrayvec::ArrayVec;
 use board::{Board, Body};
 use num_range::Space;

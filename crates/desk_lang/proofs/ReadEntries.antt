@@ -1,5 +1,5 @@
 -- An entry's written text is read as the entry.
-use Rattle.std.proofs.Common.{◌≡◌, ℕ, ◌+◌, ◌-◌, ◌/◌, ◌%◌, ◌^◌, ◌<◌, ◌≤◌, true, false, ◌==◌, ◌&&◌, nat_le, List, [], ◌∷◌, ◌++◌, length, All, Option, None, Some, Ok, decimal, codes, refl, sym, ap, ◌∙◌, subst, inl, inr, arith, append_assoc, IfSome, IfNone}
+use Rattle.std.proofs.Common.{◌≡◌, ℕ, ◌+◌, ◌-◌, ◌/◌, ◌%◌, ◌^◌, ◌<◌, ◌≤◌, true, false, ◌==◌, ◌&&◌, nat_le, List, [], ◌∷◌, ◌++◌, length, All, Option, None, Some, Ok, decimal, codes, refl, sym, ap, ◌∙◌, subst, inl, inr, arith, append_assoc}
 use Rattle.std.proofs.lemmas.Bool.{cond-true, cond-false, cases_eq, cond_both, eq-eqb, ne_eqb, false_from_ne_true, and_parts, leb-true}
 use Rattle.std.proofs.lemmas.Bool.Decides.{nat_tests}
 use Rattle.std.specs.List.{list_all}
@@ -322,8 +322,3 @@ entry_found text e h = ap (λ t. entry_line (rest_at 1 t)) h.1 ∙ entry_reads e
 -- a text is the written text of one entry alone
 pub entry_once : (text : List ℕ) (d e : PlainEntry) → SpellsEntry text d → SpellsEntry text e → d ≡ e
 entry_once text d e h k = let one = entry_found text d h in let other = entry_found text e k in cc
-
-pub seq_value : (text : List ℕ) (o : Option ℕ) → IfSome o (IsDecimalUpTo (2 ^ 64 - 1) text) → IfNone o ((n : ℕ) → ¬ (IsDecimalUpTo (2 ^ 64 - 1) text n)) → o ≡ seq_of text
-seq_value text o some none =
-    same_value (IsDecimalUpTo (2 ^ 64 - 1) text) (λ x y h k. decimal_injective x y (omega (arith, h.1)) (omega (arith, k.1)) (sym h.0 ∙ k.0))
-    o (seq_of text) some none (decimal_spelled (2 ^ 64 - 1) text (omega arith))

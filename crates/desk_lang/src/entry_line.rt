@@ -1,5 +1,5 @@
 //! Entries as they are read from the journal's lines.
-ghost use Rattle.std.specs.Prelude.{◌≡◌, ◌≤◌, ◌<◌, ◌^◌, ◌↔◌, ℕ, length, decimal, Some, IsTrue, IfSome, IfNone, IfOk};
+ghost use Rattle.std.specs.Prelude.{◌≡◌, ◌≤◌, ◌<◌, ◌^◌, ◌↔◌, Some, IsTrue, IfSome, IfNone, IfOk};
 ghost use Rattle.addr_text.specs.Reading.{range_of};
 ghost use Rattle.reg_entry.specs.Entry.{PlainEntry};
 ghost use Rattle.desk_lang.specs.declared.rest.Form.TheVariants.{Plain};
@@ -15,10 +15,9 @@ ghost use Rattle.desk_lang.specs.Words.{next_value};
 use crate::line::{LINE_ROOM, Line, read_line};
 use crate::rest::{Form, Malformed, Rest};
 use crate::writable::is_writable;
-use addr_text::{read_decimal, read_range};
+use addr_text::{read_decimal, read_long_decimal, read_range};
 use arrayvec::ArrayVec;
 use desk_text::write_entry;
-use itoa::Buffer;
 use num_range::Range;
 use reg_entry::{Card, Entry, LAST_DATE, Request, Status, read_day};
 
@@ -71,34 +70,12 @@ fn read_status(word: &[u8]) -> Option<Option<Status>>
     Some(Some(status))
 }
 
-/// The number of 64 bits that the text is the decimal of, or any number or none where it is no such decimal.
-fn parse_seq(text: &[u8]) -> Option<u64>
-    ensures { (n : ℕ) → n < 2 ^ 64 → text.now ≡ decimal n → result ≡ Some n }
-{
-    let Ok(digits) = str::from_utf8(text) else {
-        return None;
-    };
-    digits.parse().ok()
-}
-
-/// The number of 64 bits that the text is the decimal of, without sign or leading zero.
-fn read_seq(text: &[u8]) -> Option<u64>
-    ensures { result ≡ seq_of text.now }
-{
-    let seq = parse_seq(text)?;
-    let mut buffer = Buffer::new();
-    if buffer.format(seq).as_bytes() != text {
-        return None;
-    }
-    Some(seq)
-}
-
 impl<'a> Rest<'a> {
     fn seq(&self) -> Result<(u64, Rest<'a>), Malformed>
         ensures { result ≡ next_value Plain seq_of self.now }
     {
         let word = self.next_word(Form::Plain)?;
-        let seq = read_seq(word.bytes());
+        let seq = read_long_decimal(word.bytes());
         word.value(seq)
     }
 

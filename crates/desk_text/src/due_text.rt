@@ -3,7 +3,8 @@ ghost use Rattle.std.specs.Prelude.{◌≡◌, [], ◌≤◌};
 ghost use Rattle.arrayvec.specs.ArrayVec.{array_vec_len};
 ghost use Rattle.desk_text.specs.DueText.{due_count_text, due_piece_text};
 
-use crate::append::{append, append_decimal, append_range};
+use crate::append::append_range;
+use addr_text::{append, append_decimal};
 use arrayvec::ArrayVec;
 use reg_entry::Piece;
 

@@ -5,9 +5,10 @@ ghost use Rattle.reg_entry.specs.Days.{last_date};
 ghost use Rattle.desk_text.specs.EntryText.{CardHasDates, cover_word, holder_word};
 ghost use Rattle.desk_text.specs.EntryText.{day_word, card_text, entry_text};
 
-use crate::append::{append, append_day, append_decimal, append_range};
+use crate::append::{append_day, append_range};
 use crate::request_text::append_request;
 use crate::vocabulary::status_word;
+use addr_text::{append, append_decimal};
 use arrayvec::ArrayVec;
 use num_range::Range;
 use reg_entry::{Card, Entry, Name};

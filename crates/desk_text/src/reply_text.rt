@@ -6,10 +6,9 @@ ghost use Rattle.reg_entry.specs.Days.{last_date, day_text};
 ghost use Rattle.desk_text.specs.ReplyText.{RefusalHasDate, ReplyHasDate, accepted_cover, spaced_range};
 ghost use Rattle.desk_text.specs.ReplyText.{refusal_name, refusal_values, reply_text};
 
-use crate::append::{
-    append, append_day, append_decimal, append_next_handle, append_number, append_range,
-};
+use crate::append::{append_day, append_next_handle, append_range};
 use crate::vocabulary::{kind_word, status_word};
+use addr_text::{append, append_decimal, append_number};
 use arrayvec::ArrayVec;
 use itoa::Integer;
 use num_range::{Number, Range};

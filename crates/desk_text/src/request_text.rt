@@ -5,10 +5,9 @@ ghost use Rattle.addr_text.specs.Number.{number_text};
 ghost use Rattle.desk_text.specs.Vocabulary.{amount_text, quoted};
 ghost use Rattle.desk_text.specs.RequestText.{holder_text, hosts_text, range_word, request_text};
 
-use crate::append::{
-    append, append_decimal, append_handle, append_next_handle, append_number, append_range,
-};
+use crate::append::{append_handle, append_next_handle, append_range};
 use crate::vocabulary::{kind_word, space_word, status_word};
+use addr_text::{append, append_decimal, append_number};
 use arrayvec::ArrayVec;
 use num_range::{Number, Range, Space};
 use reg_entry::{Cc, Delegation, Handle, Holder, Host, Request, Servers, Text};

@@ -4,9 +4,10 @@ ghost use Rattle.arrayvec.specs.ArrayVec.{array_vec_len};
 ghost use Rattle.reg_entry.specs.Days.{last_date};
 ghost use Rattle.desk_text.specs.ShownText.{handle_word, none_text, piece_text};
 
-use crate::append::{append, append_handle, append_range};
+use crate::append::{append_handle, append_range};
 use crate::entry_text::append_card_day;
 use crate::vocabulary::status_word;
+use addr_text::append;
 use arrayvec::ArrayVec;
 use reg_entry::{Handle, Piece};
 

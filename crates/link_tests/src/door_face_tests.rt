@@ -1,6 +1,6 @@
 //! A gate over sockets.
 use door_face::{Door, Gate, SocketGate, SocketWay, Way};
-use link_face::{Failed, Link};
+use link_face::{Failed, Link, SocketLink};
 use std::io::{Read, Write};
 use std::net::{Shutdown, SocketAddr, TcpStream};
 use std::test::Fail;
@@ -17,17 +17,25 @@ fn echo<L: Link>(link: &mut L) -> Result<(), Failed> {
     link.write(&piece[..count])
 }
 
-// Whether the way's next connection, which a client opens at the address, sends back what it is sent.
-fn is_echoed(
+// The way's next connection, which a client opens at the address.
+fn connect(
     rt: &HostRuntime,
     way: &mut SocketWay<&HostRuntime>,
     address: SocketAddr,
+) -> Result<(TcpStream, SocketLink), Fail> {
+    let client = TcpStream::connect(rt, address)?;
+    let next = way.accept().map_err(|_| "no connection")?;
+    Ok((client, next.ok_or("no link")?))
+}
+
+// Whether the connection sends back what its client sends.
+fn is_echoed(
+    way: &mut SocketWay<&HostRuntime>,
+    client: &mut TcpStream,
+    mut link: SocketLink,
 ) -> Result<bool, Fail> {
-    let mut client = TcpStream::connect(rt, address)?;
     client.write_all(TEXT)?;
     client.shutdown(Shutdown::Write)?;
-    let next = way.accept().map_err(|_| "no connection")?;
-    let mut link = next.ok_or("no link")?;
     let echoed = echo(&mut link) == Ok(());
     way.done(link);
     let mut back = [0; 10];
@@ -35,16 +43,31 @@ fn is_echoed(
     Ok(echoed && back.as_slice() == TEXT)
 }
 
+// Whether of two connections that are out at once the first is closed where it is given back, and the other goes on.
+fn gives_back_one_of_two(
+    rt: &HostRuntime,
+    way: &mut SocketWay<&HostRuntime>,
+    address: SocketAddr,
+) -> Result<bool, Fail> {
+    let (mut first, one) = connect(rt, way, address)?;
+    let (mut second, other) = connect(rt, way, address)?;
+    way.done(one);
+    let is_closed = first.read(&mut [0; 1])? == 0;
+    Ok(is_closed && is_echoed(way, &mut second, other)?)
+}
+
 // Whether a door's ways have one listener, and another port there is a fault.
 fn listens_once(rt: &HostRuntime, gate: &mut SocketGate<&HostRuntime>) -> Result<bool, Fail> {
     let mut way = gate.way(Door::Http, 0).map_err(|_| "no way")?;
     let address = gate.address(Door::Http).ok_or("no address")?;
-    let echoed = is_echoed(rt, &mut way, address)?;
+    let (mut client, link) = connect(rt, &mut way, address)?;
+    let echoed = is_echoed(&mut way, &mut client, link)?;
+    let both = gives_back_one_of_two(rt, &mut way, address)?;
     let second = gate.way(Door::Http, 0).map_err(|_| "no second way")?;
     gate.done(way);
     gate.done(second);
     let faults = gate.faults();
-    Ok(echoed && faults == 0 && gate.way(Door::Http, 1).is_err() && gate.faults() == 1)
+    Ok(echoed && both && faults == 0 && gate.way(Door::Http, 1).is_err() && gate.faults() == 1)
 }
 
 fn listens_nowhere(rt: &HostRuntime) -> bool {

@@ -4,7 +4,6 @@ pub mod Parted
 pub mod Values
 pub mod KeyOrder
 pub mod Sources
-pub mod Serials
 pub mod Attributes
 pub mod Feeding
 pub mod Holding

@@ -12,7 +12,6 @@ mod names;
 mod object_lines;
 mod objects;
 mod replica;
-mod serial;
 mod words;
 
 pub use fault::FeedFault;

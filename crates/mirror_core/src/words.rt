@@ -3,8 +3,7 @@ ghost use Rattle.std.specs.Prelude.{◌≡◌, length};
 ghost use Rattle.rpsl_text.specs.Lines.{words};
 ghost use Rattle.mirror_core.specs.Framing.{start_with, start_of, names_another, act_of, operation_with, operation_of};
 
-use crate::serial::read_serial;
-use addr_text::parted_at;
+use addr_text::{parted_at, read_long_decimal};
 use reg_entry::Act;
 use rpsl_text::next_word;
 use std::marker::Model;
@@ -30,10 +29,10 @@ impl<'a> Model for StartWords<'a> {
 fn start_with<'a>(version: &[u8], source: &'a [u8], range: &[u8]) -> Option<StartWords<'a>>
     ensures { result ≡ start_with version.now source.now range.now }
 {
-    let version = read_serial(version)?;
+    let version = read_long_decimal(version)?;
     let (first, last) = parted_at(b'-', range)?;
-    let first = read_serial(first)?;
-    let last = read_serial(last)?;
+    let first = read_long_decimal(first)?;
+    let last = read_long_decimal(last)?;
     Some(StartWords {
         version,
         source,
@@ -83,7 +82,7 @@ fn operation_with(word: &[u8], number: &[u8]) -> Option<(Act, u64)>
     ensures { result ≡ operation_with word.now number.now }
 {
     let act = act_of(word)?;
-    let serial = read_serial(number)?;
+    let serial = read_long_decimal(number)?;
     Some((act, serial))
 }
 

@@ -4,7 +4,6 @@
 mod ask;
 pub mod laws;
 mod nrtm_lens;
-mod number;
 mod query;
 mod source;
 mod stream;

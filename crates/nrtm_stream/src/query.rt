@@ -6,9 +6,8 @@ ghost use Rattle.nrtm_stream.specs.Query.{is_query_byte, is_query_source};
 ghost use Rattle.nrtm_stream.specs.Ask.{behind_flag, source_of, last_of, serials_of, query_of, ask_of, IsAskedOf};
 
 use crate::laws::queries_are_spelled;
-use crate::number::read_number;
 use crate::{Ask, AskFault};
-use addr_text::parted_at;
+use addr_text::{parted_at, read_long_decimal};
 use std::marker::Model;
 
 /// What a line asks for, of whatever source and in whatever version.
@@ -70,7 +69,7 @@ fn read_last(text: &[u8]) -> Option<Option<u64>>
     if text == b"LAST".as_slice() {
         return Some(None);
     }
-    Some(Some(read_number(text)?))
+    Some(Some(read_long_decimal(text)?))
 }
 
 #[tactic(auto, unfolding(crate::specs::Ask::serials_of))]
@@ -78,7 +77,7 @@ fn read_serials(text: &[u8]) -> Option<Ask>
     ensures { result ≡ serials_of text.now }
 {
     let (first, last) = parted_at(b'-', text)?;
-    let first = read_number(first)?;
+    let first = read_long_decimal(first)?;
     let last = read_last(last)?;
     Some(Ask { first, last })
 }
@@ -91,7 +90,7 @@ fn read_query(line: &[u8]) -> Option<Query<'_>>
     let (source, words) = parted_at(b':', words)?;
     let source = source_of(source)?;
     let (version, words) = parted_at(b':', words)?;
-    let version = read_number(version)?;
+    let version = read_long_decimal(version)?;
     let ask = read_serials(words)?;
     Some(Query {
         source,

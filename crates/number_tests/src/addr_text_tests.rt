@@ -1,5 +1,6 @@
 use addr_text::{
-    read_addr, read_asn, read_block, read_number, read_range, write_number, write_range,
+    read_addr, read_asn, read_block, read_long_decimal, read_number, read_range, write_number,
+    write_range,
 };
 use arrayvec::ArrayVec;
 use num_range::{Number, Space};
@@ -156,11 +157,21 @@ fn reads_numbers_of_one_kind() -> bool {
         && read_asn(b"064496").is_none()
 }
 
+/// Up to the greatest number of 64 bits, without sign or leading zero.
+fn reads_long_decimals() -> bool {
+    read_long_decimal(b"0") == Some(0)
+        && read_long_decimal(b"18446744073709551615") == Some(u64::MAX)
+        && read_long_decimal(b"18446744073709551616").is_none()
+        && read_long_decimal(b"007").is_none()
+        && read_long_decimal(b"+7").is_none()
+        && read_long_decimal(b"").is_none()
+}
+
 #[test]
 fn numbers_of_the_standards(rt: HostRuntime) -> Result<(), Fail> {
     assert_eq!(rt; first_other_number(), None);
     assert_eq!(rt; first_number_read(), None);
-    assert!(rt; reads_numbers_of_one_kind());
+    assert!(rt; reads_numbers_of_one_kind() && reads_long_decimals());
     Ok(())
 }
 

@@ -1,14 +1,14 @@
 //! Names in the reverse zones: labels with dots between them, the last of an address's first (RFC 1035 3.5, RFC 3596 2.5).
-ghost use Rattle.std.specs.Prelude.{◌≡◌, ◌+◌, ◌*◌, ◌^◌, ◌<◌, ◌≤◌, ◌++◌, [], decimal, nat_le, length, All};
+ghost use Rattle.std.specs.Prelude.{◌≡◌, ◌+◌, ◌*◌, ◌^◌, ◌<◌, ◌≤◌, ◌++◌, [], decimal, nat_le, length, map, filter, All};
 ghost use Rattle.std.specs.Char.{digit_char};
 ghost use Rattle.arrayvec.specs.ArrayVec.{array_vec_len};
 ghost use Rattle.num_range.specs.Range.{size_of};
 ghost use Rattle.num_range.specs.declared.space.Space.TheVariants.{Ipv6 as TheIpv6};
 ghost use Rattle.reverse_zone.specs.Apex.{IsApex, label_text, labels_text, nibble_labels, apex_name};
-ghost use Rattle.reverse_zone.specs.Zone.{label_bits, label_places, label_at, cut_labels, cut_name};
+ghost use Rattle.reverse_zone.specs.Zone.{label_bits, label_places, label_at, cut_name};
 
 use crate::Apex;
-use crate::append::append;
+use addr_text::append;
 use arrayvec::ArrayVec;
 use itoa::Buffer;
 use num_range::{Range, Space};
@@ -49,7 +49,7 @@ fn append_label<const N: usize>(space: Space, label: u8, out: &mut ArrayVec<u8, 
 }
 
 /// Appends labels with dots between them.
-fn append_labels<const N: usize>(space: Space, labels: &[u8], out: &mut ArrayVec<u8, N>)
+pub(crate) fn append_labels<const N: usize>(space: Space, labels: &[u8], out: &mut ArrayVec<u8, N>)
     requires labels { All (λ label. label < 2 ^ label_bits space) labels.now }
     requires room { array_vec_len out.old + 4 * length labels.now ≤ N }
     ensures text { out.new.items ≡ out.old.items ++ labels_text space labels.now }
@@ -66,7 +66,9 @@ fn append_labels<const N: usize>(space: Space, labels: &[u8], out: &mut ArrayVec
 
 /// At which bits of an address the labels begin that stand below an apex, the last first, as far as cuts reach.
 fn label_places(space: Space) -> &'static [u32]
-    ensures { result.now ≡ label_places space }
+    ensures places { result.now ≡ label_places space }
+    ensures few { length result.now ≤ 13 }
+    ensures bits { All (λ place. place < 128) result.now }
 {
     match space {
         Space::Asn => &[],
@@ -75,37 +77,39 @@ fn label_places(space: Space) -> &'static [u32]
     }
 }
 
-/// Whether all numbers of the cut share the label at this bit: the cut isn't larger than what the label tells apart.
-fn shares_label(cut: &Range, place: u32) -> bool
+/// Whether all numbers of the block share the label at this bit: the block isn't larger than what the label tells apart.
+fn shares_label(block: &Range, place: u32) -> bool
     requires { place < 128 }
-    ensures { result ≡ nat_le (size_of cut.now) (2 ^ place) }
+    ensures { result ≡ nat_le (size_of block.now) (2 ^ place) }
 {
-    cut.last() - cut.first() < 1 << place
+    block.last() - block.first() < 1 << place
 }
 
-/// The label of the cut's first number at this bit.
-fn label_at(cut: &Range, place: u32) -> u8
+/// The label of the block's first number at this bit.
+fn label_at(block: &Range, place: u32) -> u8
     requires { place < 128 }
-    ensures label { result ≡ label_at cut.now place }
-    ensures bound { result < 2 ^ label_bits cut.now.space }
+    ensures label { result ≡ label_at block.now place }
+    ensures bound { result < 2 ^ label_bits block.now.space }
 {
-    let digits = cut.first() >> place;
-    match cut.space() {
+    let digits = block.first() >> place;
+    match block.space() {
         Space::Asn => 0,
         Space::Ipv4 => (digits % 256) as u8,
         Space::Ipv6 => (digits % 16) as u8,
     }
 }
 
-/// The labels that all numbers of the cut share, the last first.
-fn cut_labels(cut: &Range) -> ArrayVec<u8, 13>
-    ensures labels { result.items ≡ cut_labels cut.now }
-    ensures bounds { All (λ label. label < 2 ^ label_bits cut.now.space) result.items }
+/// The labels at these bits that all numbers of the block share.
+pub(crate) fn shared_labels<const N: usize>(block: &Range, places: &[u32]) -> ArrayVec<u8, N>
+    requires few { length places.now ≤ N }
+    requires bits { All (λ place. place < 128) places.now }
+    ensures labels { result.items ≡ map (label_at block.now) (filter (λ place. nat_le (size_of block.now) (2 ^ place)) places.now) }
+    ensures bounds { All (λ label. label < 2 ^ label_bits block.now.space) result.items }
 {
     let mut labels = ArrayVec::new();
-    for place in label_places(cut.space()) {
-        if shares_label(cut, *place) {
-            labels.push(label_at(cut, *place));
+    for place in places {
+        if shares_label(block, *place) {
+            labels.push(label_at(block, *place));
         }
     }
     labels
@@ -117,7 +121,7 @@ pub(crate) fn append_cut_name<const N: usize>(cut: &Range, out: &mut ArrayVec<u8
     ensures text { out.new.items ≡ out.old.items ++ cut_name cut.now }
     ensures len { array_vec_len out.new ≤ array_vec_len out.old + 52 }
 {
-    let labels = cut_labels(cut);
+    let labels: ArrayVec<u8, 13> = shared_labels(cut, label_places(cut.space()));
     append_labels(cut.space(), labels.as_slice(), out);
 }
 

@@ -3,7 +3,7 @@
 
 mod apex;
 mod apex_walk;
-mod append;
+mod domain;
 mod labels;
 pub mod laws;
 mod lines;
@@ -13,6 +13,7 @@ mod zone_lens;
 
 pub use apex::{Apex, read_apex};
 pub use apex_walk::{ApexWalk, apexes};
+pub use domain::reverse_name;
 pub use pooled::in_pool;
 pub use zone::write_zone;
 pub use zone_lens::ZoneLens;

@@ -1,16 +1,25 @@
 //! The lines of a zone's master file (RFC 1035 5.1).
 ghost use Rattle.std.specs.Prelude.{◌≡◌, ◌+◌, ◌≤◌, ◌++◌, [], length, codes, OnOk};
+ghost use Rattle.arrayvec.specs.ArrayVec.{array_vec_len};
 ghost use Rattle.reverse_zone.specs.Apex.{IsApex};
 ghost use Rattle.reverse_zone.specs.Zone.{server_line, server_lines, origin_text, authority_line, cut_lines};
 
 use crate::Apex;
-use crate::append::{append, append_decimal, append_host};
 use crate::labels::{append_apex_name, append_cut_name};
+use addr_text::{append, append_decimal};
 use arrayvec::ArrayVec;
 use board::Body;
 use num_range::Range;
 use reg_entry::{Host, Servers, ZoneTerms};
 use std::alloc::AllocError;
+
+fn append_host<const N: usize>(host: &Host, out: &mut ArrayVec<u8, N>)
+    requires room { array_vec_len out.old + 96 ≤ N }
+    ensures text { out.new.items ≡ out.old.items ++ host.now }
+    ensures len { array_vec_len out.new ≤ array_vec_len out.old + 96 }
+{
+    append(host.bytes(), out);
+}
 
 /// Writes the line of a name server, which has at most 157 bytes.
 fn write_server(name: &[u8], server: &Host, out: &mut ArrayVec<u8, 256>)

@@ -2,7 +2,6 @@
 #![tactic(auto)]
 
 mod attrs;
-mod domain;
 mod fault;
 pub mod laws;
 mod lines;

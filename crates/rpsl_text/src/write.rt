@@ -6,12 +6,12 @@ ghost use Rattle.desk_text.specs.ReplyText.{spaced_range};
 ghost use Rattle.reverse_zone.specs.Delegated.{reverse_name};
 ghost use Rattle.rpsl_text.specs.Object.{HasDates, block_class, day_attribute, org_attribute, server_attribute, org_attributes, block_attributes, sub_attributes, cut_attributes, own_attributes, attribute_line, attributes_text, object_text};
 
-use crate::domain::reverse_name;
 use addr_text::write_range;
 use arrayvec::ArrayVec;
 use board::Body;
 use num_range::{Range, Space};
 use reg_entry::{Handle, Holder, Kind, Object, Servers, Status, day_text};
+use reverse_zone::reverse_name;
 use std::alloc::{AllocError, Global};
 
 fn kind_word(kind: Kind) -> &'static [u8]

@@ -1,4 +1,3 @@
-pub mod Numbers
 pub mod Heads
 pub mod Steps
 pub mod Room

@@ -11,8 +11,7 @@ ghost use Rattle.wire_http.specs.Body.{body_length, given_length, served_length}
 ghost use Rattle.wire_http.specs.Occurrence.{occurs, values_in};
 
 use crate::front::{Front, read_front};
-use crate::number::read_number;
-use addr_text::read_decimal;
+use addr_text::{read_decimal, read_long_decimal};
 use httparse::spans::{HeaderSpan, RequestSpans};
 use std::marker::Model;
 
@@ -193,7 +192,7 @@ impl<'a> Head<'a> {
     {
         match self.field(b"Register-At-Least") {
             Occurrence::Never => Some(0),
-            Occurrence::Once(value) => read_number(value),
+            Occurrence::Once(value) => read_long_decimal(value),
             Occurrence::Repeated => None,
         }
     }

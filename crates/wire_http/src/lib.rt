@@ -1,14 +1,12 @@
 //! HTTP/1.1 messages from any pieces: the framer, what a head says, and the heads and error bodies of replies.
 #![tactic(auto)]
 
-mod append;
 mod first_step;
 mod framer;
 mod front;
 mod head;
 mod laws;
 mod message;
-mod number;
 mod reply;
 mod reply_error;
 

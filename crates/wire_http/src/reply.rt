@@ -3,7 +3,7 @@ ghost use Rattle.std.specs.Prelude.{◌≡◌, ◌+◌, ◌≤◌, ◌++◌, [],
 ghost use Rattle.arrayvec.specs.ArrayVec.{array_vec_len};
 ghost use Rattle.wire_http.specs.Reply.{is_reply_code, title_of, status_line, content_type, content_length, serial_line, refusal_line, close_line, head_text};
 
-use crate::append::{append, append_decimal};
+use addr_text::{append, append_decimal};
 use arrayvec::ArrayVec;
 
 /// What the head of a reply says.
@@ -56,9 +56,9 @@ pub(crate) fn title(code: u16) -> &'static [u8]
 
 fn append_status_line(code: u16, out: &mut ArrayVec<u8, 512>)
     requires code { IsTrue (is_reply_code code) }
-    requires room { array_vec_len out.old + 60 ≤ 512 }
+    requires room { array_vec_len out.old + 80 ≤ 512 }
     ensures text { out.new.items ≡ out.old.items ++ status_line code }
-    ensures len { array_vec_len out.new ≤ array_vec_len out.old + 60 }
+    ensures len { array_vec_len out.new ≤ array_vec_len out.old + 80 }
 {
     append(b"HTTP/1.1 ", out);
     append_decimal(u64::from(code), out);
@@ -125,7 +125,7 @@ fn append_close(close: bool, out: &mut ArrayVec<u8, 512>)
     }
 }
 
-/// Writes the head of a reply with the empty line that ends it; it has at most 362 bytes.
+/// Writes the head of a reply with the empty line that ends it.
 pub fn write_head(h: &ReplyHead, out: &mut ArrayVec<u8, 512>)
     requires empty { out.old.items ≡ [] }
     requires code { IsTrue (is_reply_code h.now.code) }

@@ -4,17 +4,17 @@ ghost use Rattle.arrayvec.specs.ArrayVec.{array_vec_len};
 ghost use Rattle.wire_http.specs.Reply.{is_reply_code};
 ghost use Rattle.wire_http.specs.ErrorBody.{description_of, description_member, code_member, title_member, error_text};
 
-use crate::append::{append, append_decimal};
 use crate::reply::title;
+use addr_text::{append, append_decimal};
 use arrayvec::ArrayVec;
 
 #[tactic(auto, unfolding(crate::specs::ErrorBody::description_of))]
 fn append_description(code: u16, entries: u64, shut: bool, out: &mut ArrayVec<u8, 256>)
     requires code { IsTrue (is_reply_code code) }
     requires not_ok { code ≢ 200 }
-    requires room { array_vec_len out.old + 60 ≤ 256 }
+    requires room { array_vec_len out.old + 70 ≤ 256 }
     ensures text { out.new.items ≡ out.old.items ++ description_of code entries shut }
-    ensures len { array_vec_len out.new ≤ array_vec_len out.old + 60 }
+    ensures len { array_vec_len out.new ≤ array_vec_len out.old + 70 }
 {
     match code {
         400 => append(b"malformed query", out),
@@ -38,9 +38,9 @@ fn append_description(code: u16, entries: u64, shut: bool, out: &mut ArrayVec<u8
 fn append_description_member(code: u16, entries: u64, shut: bool, out: &mut ArrayVec<u8, 256>)
     requires code { IsTrue (is_reply_code code) }
     requires not_ok { code ≢ 200 }
-    requires room { array_vec_len out.old + 80 ≤ 256 }
+    requires room { array_vec_len out.old + 90 ≤ 256 }
     ensures text { out.new.items ≡ out.old.items ++ description_member code entries shut }
-    ensures len { array_vec_len out.new ≤ array_vec_len out.old + 80 }
+    ensures len { array_vec_len out.new ≤ array_vec_len out.old + 90 }
 {
     append(b"\"description\":[\"", out);
     append_description(code, entries, shut, out);
@@ -48,9 +48,9 @@ fn append_description_member(code: u16, entries: u64, shut: bool, out: &mut Arra
 }
 
 fn append_code_member(code: u16, out: &mut ArrayVec<u8, 256>)
-    requires room { array_vec_len out.old + 40 ≤ 256 }
+    requires room { array_vec_len out.old + 60 ≤ 256 }
     ensures text { out.new.items ≡ out.old.items ++ code_member code }
-    ensures len { array_vec_len out.new ≤ array_vec_len out.old + 40 }
+    ensures len { array_vec_len out.new ≤ array_vec_len out.old + 60 }
 {
     append(b"\"errorCode\":", out);
     append_decimal(u64::from(code), out);

@@ -3,7 +3,7 @@ use Rattle.std.proofs.lemmas.Fmt.{parse-decimal, IsAscii-decimal}
 use Rattle.std.proofs.lemmas.Str.{IsUtf8-from_ascii}
 use Rattle.std.specs.Result.{result_ok}
 use Rattle.std.specs.Str.{IsUtf8}
-use Rattle.command_words.proofs.number.parse_number.Goals as goal
+use Rattle.addr_text.proofs.decimal.parse_long.Goals as goal
 
 pub returns-in_default : goal.returns-in_default
 returns-in_default c =

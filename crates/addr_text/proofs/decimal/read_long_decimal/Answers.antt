@@ -2,8 +2,8 @@ use Rattle.std.proofs.Common.{◌≡◌, ◌∙◌, ◌-◌, ◌^◌, true, deci
 use Rattle.std.proofs.lemmas.Bool.{not-false}
 use Rattle.std.proofs.lemmas.Slice.Eq.{bytes_eq-Decides}
 use Rattle.std.specs.Str.{bytes_eq}
-use Rattle.command_words.proofs.Decimals.{decimal_found}
-use Rattle.command_words.proofs.number.read_number.Goals as goal
+use Rattle.addr_text.proofs.Computed.{decimal_found}
+use Rattle.addr_text.proofs.decimal.read_long_decimal.Goals as goal
 
 pub returns : goal.returns
 returns c =
