@@ -9,7 +9,7 @@ use Rattle.std.specs.Net.Reader.{Read, whole_value, read_ipv4, read_ipv6}
 use Rattle.std.proofs.lemmas.Slice.Eq.{bytes_eq-Decides}
 use Rattle.std.proofs.lemmas.Bool.{cond-true, leb-true, le-leb}
 use Rattle.std.proofs.lemmas.Bool.Decides.{Decides-and, Decides-eqb, Decides-like, not_from_Decides}
-use Rattle.std.proofs.lemmas.Fmt.{decimal_is_IsNumeral, decimal_injective}
+use Rattle.std.proofs.lemmas.Fmt.{decimal_is_IsNumeral}
 use Rattle.std.specs.Bool.{Decides}
 use Rattle.std.proofs.lemmas.Option.{cond_some, none-some}
 use Rattle.std.proofs.NetLemmas.Options.{same_parts}
@@ -105,6 +105,11 @@ decimal_read most n text e =
     let (tests, same) = cond_some _ v n e in
     let both = (Decides-and _ _ (bytes_eq-Decides (decimal v) text) (leb-true v most, le-leb v most)).0 tests in
     (sym both.0 ∙ ap decimal same, omega (arith, both.1, same))
+
+-- where there is none below a bound, the text is the decimal of none there
+pub no_decimal : (bound : ℕ) (text : List ℕ) (o : Option ℕ) → bound ≤ 2 ^ 64 → o ≡ decimal_up_to (bound - 1) text → IfNone o ((n : ℕ) → n < bound → text ≢ decimal n)
+no_decimal bound text None fits e = λ n below spelled. none-some n (e ∙ decimal_found (bound - 1) n text spelled (omega (arith, below)) (omega (arith, fits, below)))
+no_decimal bound text (Some n) fits e = tt
 
 -- ---- addresses
 
@@ -276,18 +281,3 @@ number_value text o some none = same_value (SpellsNumber text) (number_once text
 
 pub range_value : (text : List ℕ) (o : Option PlainRange) → IfSome o (SpellsRange text) → IfNone o ((r : PlainRange) → ¬ (SpellsRange text r)) → o ≡ range_of text
 range_value text o some none = same_value (SpellsRange text) (range_once text) o (range_of text) some none (range_spelled text)
-
-pub decimal_value : (text : List ℕ) (o : Option ℕ) → IfSome o (λ n. text ≡ decimal n) → IfSome o (λ n. n < 2 ^ 32) → IfNone o ((n : ℕ) → n < 2 ^ 32 → text ≢ decimal n) → o ≡ decimal_up_to (2 ^ 32 - 1) text
-decimal_value text o some fits none =
-    same_value (IsDecimalUpTo (2 ^ 32 - 1) text) once o _ (within o some fits) (beyond o none) (decimal_spelled (2 ^ 32 - 1) text (omega arith))
-  where
-    once : (x y : ℕ) → IsDecimalUpTo (2 ^ 32 - 1) text x → IsDecimalUpTo (2 ^ 32 - 1) text y → x ≡ y
-    once x y h k = decimal_injective x y (omega (arith, h.1)) (omega (arith, k.1)) (sym h.0 ∙ k.0)
-
-    within : (o : Option ℕ) → IfSome o (λ n. text ≡ decimal n) → IfSome o (λ n. n < 2 ^ 32) → IfSome o (IsDecimalUpTo (2 ^ 32 - 1) text)
-    within None h k = tt
-    within (Some n) h k = (h, omega (arith, k))
-
-    beyond : (o : Option ℕ) → IfNone o ((n : ℕ) → n < 2 ^ 32 → text ≢ decimal n) → IfNone o ((n : ℕ) → ¬ (IsDecimalUpTo (2 ^ 32 - 1) text n))
-    beyond None h = λ n k. h n (omega (arith, k.1)) k.0
-    beyond (Some n) h = tt

@@ -1,45 +1,10 @@
 //! Plain decimal: no sign, no leading zero.
-ghost use Rattle.std.specs.Prelude.{◌≡◌, ◌≢◌, ℕ, ◌<◌, ◌≤◌, ◌+◌, ◌^◌, ◌-◌, ◌↔◌, ◌++◌, length, decimal, Some, IsTrue, IfSome, IfNone, slice_index};
+ghost use Rattle.std.specs.Prelude.{◌≡◌, ◌≢◌, ℕ, ◌<◌, ◌≤◌, ◌+◌, ◌^◌, ◌-◌, ◌++◌, length, decimal, Some, IfSome, IfNone};
 ghost use Rattle.addr_text.specs.Reading.{decimal_up_to};
 ghost use Rattle.arrayvec.specs.ArrayVec.{array_vec_len};
 
 use arrayvec::ArrayVec;
 use itoa::Buffer;
-
-/// Whether no sign stands first, and no `0` where more digits follow.
-fn has_plain_start(text: &[u8]) -> bool
-    ensures { IsTrue result
-        ↔ ((slice_index text.now 0 ≢ 43) × (slice_index text.now 0 ≡ 48 → length text.now ≡ 1)) }
-{
-    match text {
-        [first, rest @ ..] => *first != b'+' && (*first != b'0' || rest.is_empty()),
-        [] => true,
-    }
-}
-
-/// The number of 32 bits that the text is the decimal of, found digit by digit.
-fn find_decimal(text: &[u8]) -> Option<u32>
-    ensures some { IfSome result (λ n. text.now ≡ decimal n) }
-    ensures fits { IfSome result (λ n. n < 2 ^ 32) }
-    ensures none { IfNone result ((n : ℕ) → n < 2 ^ 32 → text.now ≢ decimal n) }
-{
-    if !has_plain_start(text) {
-        return None;
-    }
-    let Ok(digits) = str::from_utf8(text) else {
-        return None;
-    };
-    digits.parse().ok()
-}
-
-/// The number of 32 bits that the text is the decimal of, without sign or leading zero.
-pub fn read_decimal(text: &[u8]) -> Option<u32>
-    ensures value { result ≡ decimal_up_to (2 ^ 32 - 1) text.now }
-    ensures some { IfSome result (λ n. text.now ≡ decimal n) }
-    ensures none { IfNone result ((n : ℕ) → n < 2 ^ 32 → text.now ≢ decimal n) }
-{
-    find_decimal(text)
-}
 
 /// The number of 64 bits that the text is the decimal of, or any number or none where it is no such decimal.
 fn parse_long(text: &[u8]) -> Option<u64>
@@ -61,6 +26,15 @@ pub fn read_long_decimal(text: &[u8]) -> Option<u64>
         return None;
     }
     Some(number)
+}
+
+/// The number of 32 bits that the text is the decimal of, without sign or leading zero.
+pub fn read_decimal(text: &[u8]) -> Option<u32>
+    ensures value { result ≡ decimal_up_to (2 ^ 32 - 1) text.now }
+    ensures some { IfSome result (λ n. text.now ≡ decimal n) }
+    ensures none { IfNone result ((n : ℕ) → n < 2 ^ 32 → text.now ≢ decimal n) }
+{
+    u32::try_from(read_long_decimal(text)?).ok()
 }
 
 /// Appends the number's decimal.

@@ -3,7 +3,7 @@ use Rattle.std.proofs.Common.{◌≡◌, ℕ, ◌+◌, ◌-◌, ◌/◌, ◌%◌
 use Rattle.std.proofs.lemmas.Bool.{cond-true, cond-false, cases_eq, cond_both, eq-eqb, ne_eqb, false_from_ne_true, and_parts, leb-true}
 use Rattle.std.proofs.lemmas.Bool.Decides.{nat_tests}
 use Rattle.std.specs.List.{list_all}
-use Rattle.std.proofs.lemmas.Fmt.{length-decimal-le, decimal_nonempty, decimal_injective}
+use Rattle.std.proofs.lemmas.Fmt.{length-decimal-le, decimal_nonempty}
 use Rattle.std.proofs.lemmas.List.Elements.{All-nil, All-cons, All-append}
 use Rattle.std.proofs.lemmas.Option.{none-some}
 use Rattle.std.proofs.lemmas.Slice.Eq.{bytes_eq-Decides}
@@ -13,7 +13,7 @@ use Rattle.std.specs.Str.{bytes_eq}
 use Rattle.std.specs.Net.Reader.{read_ipv4, read_octet, read_number, read_ipv6, read_segments, read_segment}
 use Rattle.num_range.specs.Range.{PlainRange}
 use Rattle.addr_text.specs.Reading.{range_of, block_of_text, whole_block_of, first_to_last_of}
-use Rattle.addr_text.proofs.Computed.{same_value, IsDecimalUpTo, decimal_spelled}
+use Rattle.addr_text.proofs.Computed.{decimal_found}
 use Rattle.reg_entry.specs.declared.card.Card.{Card}
 use Rattle.reg_entry.specs.declared.card.Status.{Status}
 use Rattle.reg_entry.specs.declared.card.Status.TheVariants.{Available, Reserved, Quarantine, Allocated, Assigned}
@@ -45,9 +45,7 @@ optional_back value x word some none =
         false_from_ne_true (bytes_eq word (codes "-")) (λ e. none-some x (sym none ∙ ap value (sym ((bytes_eq-Decides word (codes "-")).0 e)) ∙ some))
 
 seq_back : (n : ℕ) → n < 2 ^ 64 → seq_of (decimal n) ≡ Some n
-seq_back n fits =
-    sym (same_value (IsDecimalUpTo (2 ^ 64 - 1) (decimal n)) (λ x y h k. decimal_injective x y (omega (arith, h.1)) (omega (arith, k.1)) (sym h.0 ∙ k.0))
-    (Some n) (seq_of (decimal n)) (refl, omega arith) tt (decimal_spelled (2 ^ 64 - 1) (decimal n) (omega arith)))
+seq_back n fits = decimal_found (2 ^ 64 - 1) n (decimal n) refl (omega arith) (omega arith)
 
 pub day_back : (day : ℕ) → 1 ≤ day → day ≤ last_date → day_of_text (day_text day) ≡ Some day
 day_back day some date =

@@ -1,7 +1,6 @@
 -- What was written of a value has that value.
 use Rattle.std.proofs.Common.{◌≡◌, ℕ, ◌-◌, ◌^◌, ◌<◌, Bool, true, nat_le, List, None, Some, decimal, refl, sym, ap, ◌∙◌, arith, cond}
 use Rattle.std.proofs.lemmas.Bool.{and_parts, leb-true, cond-true}
-use Rattle.std.proofs.lemmas.Fmt.{decimal_injective}
 use Rattle.std.specs.Option.{option_and_then}
 use Rattle.num_range.specs.declared.space.Space.{Space}
 use Rattle.num_range.specs.declared.space.Space.TheVariants.{Asn, Ipv4, Ipv6}
@@ -10,7 +9,7 @@ use Rattle.num_range.specs.Range.{PlainRange, IsRange}
 use Rattle.addr_text.specs.Number.{SpellsNumber, number_text}
 use Rattle.addr_text.specs.Range.{SpellsRange}
 use Rattle.addr_text.specs.Reading.{number_of, range_of}
-use Rattle.addr_text.proofs.Computed.{same_value, IsDecimalUpTo, decimal_spelled, number_spelled, range_spelled}
+use Rattle.addr_text.proofs.Computed.{same_value, decimal_found, number_spelled, range_spelled}
 use Rattle.addr_text.proofs.Once.{number_once, range_once}
 use Rattle.addr_text.proofs.Written.{number_written, range_written}
 use Rattle.reg_entry.specs.declared.kind.Kind.{Kind}
@@ -47,9 +46,7 @@ delegation_back Allocate = refl
 delegation_back Assign = refl
 
 pub decimal_back : (n : ℕ) → n < 2 ^ 32 → decimal_of (decimal n) ≡ Some n
-decimal_back n fits =
-    sym (same_value (IsDecimalUpTo (2 ^ 32 - 1) (decimal n)) (λ x y h k. decimal_injective x y (omega (arith, h.1)) (omega (arith, k.1)) (sym h.0 ∙ k.0))
-    (Some n) (decimal_of (decimal n)) (refl, omega arith) tt (decimal_spelled (2 ^ 32 - 1) (decimal n) (omega arith)))
+decimal_back n fits = decimal_found (2 ^ 32 - 1) n (decimal n) refl (omega arith) (omega arith)
 
 -- an amount that can be asked for is at most 1,024
 pub amount_fits : (space : Space) (amount : ℕ) → has_size space amount ≡ true → amount < 2 ^ 32

@@ -5,6 +5,7 @@ use Rattle.std.proofs.lemmas.Fmt.{decimal_digit}
 use Rattle.std.proofs.lemmas.List.Elements.{All-head, All-tail}
 use Rattle.std.specs.Option.{option_map}
 use Rattle.addr_text.specs.Reading.{◌>>=◌, parted_at}
+use Rattle.addr_text.proofs.Computed.{decimal_found}
 use Rattle.reg_entry.specs.declared.object.Act.{Act}
 use Rattle.reg_entry.specs.declared.object.Act.TheVariants.{Add, Del}
 use Rattle.nrtm_stream.specs.Stream.{act_word}
@@ -13,7 +14,7 @@ use Rattle.mirror_core.specs.declared.fault.FeedFault.TheVariants.{Spelling}
 use Rattle.mirror_core.specs.Mirror.{PlainMirror, PlainStream, PlainDraft}
 use Rattle.mirror_core.specs.Framing.{Start, serial_of, start_with, started, start_line, no_lines, operation_with, operation_of, begun, operation_line, end_line}
 use Rattle.mirror_core.specs.Line.{after_line}
-use Rattle.mirror_laws.proofs.Words.{IsWord, word_between, word_first, word_alone, bytes_same, decimal_word, decimal_no_dash, decimal_read}
+use Rattle.mirror_laws.proofs.Words.{IsWord, word_between, word_first, word_alone, bytes_same, decimal_word, decimal_no_dash}
 use Rattle.mirror_laws.proofs.Lines.{Objects, at}
 
 abbrev pub between : ℕ → ℕ → Option PlainDraft → Option PlainStream
@@ -42,8 +43,11 @@ parted (b ∷ front) back h =
 abbrev start_of_serials : List ℕ → ℕ → ℕ → Start
 start_of_serials source a b = record { version = 3; source = source; first = a; last = b }
 
+serial_read : (n : ℕ) → n < 2 ^ 64 → serial_of (decimal n) ≡ Some n
+serial_read n fits = decimal_found (2 ^ 64 - 1) n (decimal n) refl (omega arith) (omega arith)
+
 three : serial_of (codes "3") ≡ Some 3
-three = ap serial_of (sym (decimal_digit 3 (omega arith))) ∙ decimal_read (2 ^ 64 - 1) 3 (omega arith) (omega arith)
+three = ap serial_of (sym (decimal_digit 3 (omega arith))) ∙ serial_read 3 (omega arith)
 
 start_read : (source : List ℕ) (a b : ℕ) → a < 2 ^ 64 → b < 2 ^ 64 → start_with (codes "3") source (with_dash a b) ≡ Some (start_of_serials source a b)
 unfolding start_with
@@ -51,8 +55,8 @@ start_read source a b low high =
     ap (λ (o : Option ℕ). o >>= λ number. parted_at 45 (with_dash a b) >>= λ parts. serial_of parts.0 >>= λ first. serial_of parts.1 >>= λ last. Some (record { version = number; source = source; first = first; last = last })) three
     ∙ ap (λ (o : Option (List ℕ × List ℕ)). o >>= λ parts. serial_of parts.0 >>= λ first. serial_of parts.1 >>= λ last. Some (start_of_serials source first last))
     (parted (decimal a) (decimal b) (decimal_no_dash a low))
-    ∙ ap (λ (o : Option ℕ). o >>= λ first. serial_of (decimal b) >>= λ last. Some (start_of_serials source first last)) (decimal_read (2 ^ 64 - 1) a low (omega arith))
-    ∙ ap (λ (o : Option ℕ). o >>= λ last. Some (start_of_serials source a last)) (decimal_read (2 ^ 64 - 1) b high (omega arith))
+    ∙ ap (λ (o : Option ℕ). o >>= λ first. serial_of (decimal b) >>= λ last. Some (start_of_serials source first last)) (serial_read a low)
+    ∙ ap (λ (o : Option ℕ). o >>= λ last. Some (start_of_serials source a last)) (serial_read b high)
 
 abbrev started_of : PlainMirror → Option Start → Result PlainMirror FeedFault
 started_of m o = elim o [
@@ -68,8 +72,8 @@ with_operation m o = elim o [
 
 operation_read : (act : Act) (k : ℕ) → k < 2 ^ 64 → operation_of (act_word act ∷ decimal k ∷ []) ≡ Some (act, k)
 unfolding operation_with
-operation_read Add k fits = ap (λ (o : Option ℕ). o >>= λ serial. Some (Add, serial)) (decimal_read (2 ^ 64 - 1) k fits (omega arith))
-operation_read Del k fits = ap (λ (o : Option ℕ). o >>= λ serial. Some (Del, serial)) (decimal_read (2 ^ 64 - 1) k fits (omega arith))
+operation_read Add k fits = ap (λ (o : Option ℕ). o >>= λ serial. Some (Add, serial)) (serial_read k fits)
+operation_read Del k fits = ap (λ (o : Option ℕ). o >>= λ serial. Some (Del, serial)) (serial_read k fits)
 
 module _ (source : List ℕ) (os : Objects) (n place : ℕ) (line : List ℕ) where
   begins : (a b : ℕ) → a ≤ n + 1 → a < 2 ^ 64 → a ≤ b

@@ -10,11 +10,12 @@ use Rattle.std.proofs.Math.Pow.{shr-shr}
 use Rattle.std.specs.Char.{digit_char, digit_value}
 use Rattle.std.specs.List.{AllByRecursion, slice_split}
 use Rattle.std.specs.Option.{option_map, option_and_then}
+use Rattle.addr_text.proofs.Computed.{decimal_found}
 use Rattle.num_range.specs.declared.space.Space.{Space}
 use Rattle.num_range.specs.declared.space.Space.TheVariants.{Ipv4, Ipv6}
 use Rattle.reverse_zone.specs.Apex.{label_text, labels_text}
 use Rattle.mirror_core.specs.Keys.{label_of, labels_of, labels_value}
-use Rattle.mirror_laws.proofs.Words.{IsWordByte, IsWord, decimal_word, decimal_no_dot, decimal_read}
+use Rattle.mirror_laws.proofs.Words.{IsWordByte, IsWord, decimal_word, decimal_no_dot}
 
 -- ---- places
 
@@ -68,7 +69,7 @@ pub octet_label : (l : ℕ) → l < 256 → IsLabel Ipv4 l
 octet_label l h = record {
   word = decimal_word l (omega arith);
   no_dot = decimal_no_dot l (omega arith);
-  read = decimal_read 255 l (omega arith) (omega arith);
+  read = decimal_found 255 l (label_text Ipv4 l) refl (omega arith) (omega arith);
 }
 
 abbrev is_nibble : ℕ → Bool

@@ -1,6 +1,6 @@
 -- Words between blanks, and decimals as words.
-use Rattle.std.proofs.Common.{◌≡◌, ◌≢◌, ℕ, ◌^◌, ◌<◌, ◌≤◌, Bool, true, false, ◌&&◌, ◌==◌, nat_lt, nat_le, cond, List, [], ◌∷◌, ◌++◌, length, filter, All, decimal, bytes_eq, None, Some, refl, ap, ◌∙◌, arith, lt-ltb, le-leb, ne_eqb, length-append}
-use Rattle.std.proofs.lemmas.Bool.{and_parts, and_from, or_from, cond-true}
+use Rattle.std.proofs.Common.{◌≡◌, ◌≢◌, ℕ, ◌^◌, ◌<◌, ◌≤◌, Bool, true, false, ◌&&◌, ◌==◌, nat_lt, nat_le, List, [], ◌∷◌, ◌++◌, length, filter, All, decimal, bytes_eq, refl, ap, ◌∙◌, arith, lt-ltb, ne_eqb, length-append}
+use Rattle.std.proofs.lemmas.Bool.{and_parts, or_from, cond-true}
 use Rattle.std.proofs.lemmas.Bool.Decides.{nat_tests}
 use Rattle.std.proofs.lemmas.Fmt.{decimal_is_IsNumeral, decimal_nonempty}
 use Rattle.std.proofs.lemmas.List.Elements.{All-nil, All-cons, All-append, All-weaker, All-from_get_or}
@@ -8,7 +8,6 @@ use Rattle.std.proofs.lemmas.List.Splits.{slice_split_none, slice_split_at}
 use Rattle.std.proofs.lemmas.Slice.Eq.{bytes_eq-Decides}
 use Rattle.std.proofs.lemmas.Str.Parse.{digit_at}
 use Rattle.std.specs.List.{list_all}
-use Rattle.addr_text.specs.Reading.{decimal_up_to}
 use Rattle.rpsl_text.specs.Forms.{is_source_byte, is_source}
 use Rattle.rpsl_text.specs.Lines.{is_blank, words}
 
@@ -91,9 +90,3 @@ decimal_no_dash n fits = All-weaker IsDigitByte (λ b. b ≢ 45) (λ b h e. omeg
 
 pub decimal_no_dot : (n : ℕ) → n < 2 ^ 64 → All (λ b. b ≢ 46) (decimal n)
 decimal_no_dot n fits = All-weaker IsDigitByte (λ b. b ≢ 46) (λ b h e. omega (arith, h)) (decimal n) (decimal_bytes n fits)
-
-pub decimal_read : (most n : ℕ) → n < 2 ^ 64 → n ≤ most → decimal_up_to most (decimal n) ≡ Some n
-decimal_read most n fits small =
-    ap (λ (v : ℕ). cond (bytes_eq (decimal v) (decimal n) && nat_le v most) (Some v) None) (decimal_is_IsNumeral n fits).1
-    ∙ cond-true (bytes_eq (decimal n) (decimal n) && nat_le n most) (Some n) None
-    (and_from (bytes_eq (decimal n) (decimal n)) (nat_le n most) (bytes_same (decimal n)) (le-leb n most small))
