@@ -12,14 +12,14 @@ use std::alloc::Global;
 use std::marker::Model;
 
 /// The serials of a stream that are still to come. The next goes one past the last.
-#[derive(Clone, Copy, Debug, PartialEq, Eq)]
+#[derive(Clone, Copy)]
 pub(crate) struct Serials {
     pub(crate) next: u128,
     pub(crate) last: u64,
 }
 
 /// An object that is being read.
-#[derive(Debug, Drop)]
+#[derive(Drop)]
 pub(crate) struct Draft {
     pub(crate) act: Act,
     pub(crate) attributes: Attrs,
@@ -44,7 +44,7 @@ impl Model for Draft {
     ghost invariant = { λ d. IfSome d.key (λ k. object_key d.attributes ≡ Some k.value) };
 }
 
-#[derive(Debug, Drop)]
+#[derive(Drop)]
 pub(crate) struct Stream {
     pub(crate) serials: Serials,
     pub(crate) draft: Option<Draft>,

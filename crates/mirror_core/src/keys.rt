@@ -93,7 +93,7 @@ fn handle_key(text: &[u8]) -> Option<Key>
 }
 
 /// The classes of the register's objects.
-#[derive(Clone, Copy, Debug, PartialEq, Eq)]
+#[derive(Clone, Copy)]
 enum ClassName {
     Organisation,
     AsBlock,

@@ -19,7 +19,6 @@ type Line = ArrayVec<u8, 1026>;
 
 /// Of the source that it mirrors it holds each object of the operations that it was fed, the serial of the last of them, and of
 /// what isn't whole yet one line and one object.
-#[derive(Drop)]
 pub struct Mirror {
     replica: Replica,
     line: Line,
@@ -36,6 +35,17 @@ impl Model for Mirror {
     ghost view = { λ m. mirror_with m.replica m.line.items m.fault };
 
     ghost invariant = { λ m. IsSound m.replica m.line.items m.fault };
+}
+
+/// All that it holds goes. It is written out, since whoever lets a mirror go would have to prove a derived one again.
+impl Drop for Mirror {
+    fn drop(self) {
+        let Mirror {
+            replica: _replica,
+            line: _line,
+            fault: _fault,
+        } = self;
+    }
 }
 
 fn append(piece: &[u8], line: &mut Line)

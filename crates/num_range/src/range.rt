@@ -7,7 +7,7 @@ use std::marker::Model;
 
 /// A range of numbers of one space, its first and its last number included. Ranges are ordered by space, then by
 /// first, then by last number.
-#[derive(Clone, Copy, Debug, PartialEq, Eq, PartialOrd, Ord, Hash)]
+#[derive(Clone, Copy, Debug, PartialEq, Eq, PartialOrd, Ord)]
 pub struct Range {
     space: Space,
     first: u128,

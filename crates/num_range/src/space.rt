@@ -3,7 +3,7 @@ ghost use Rattle.num_range.specs.Space.{top_of, width_of};
 ghost use Rattle.num_range.specs.Amount.{amount_size, has_size, alignment};
 
 /// A kind of number: an AS number of four bytes (RFC 6793), an IPv4 address (RFC 791) or an IPv6 address (RFC 4291).
-#[derive(Clone, Copy, Debug, PartialEq, Eq, PartialOrd, Ord, Hash)]
+#[derive(Clone, Copy, Debug, PartialEq, Eq, PartialOrd, Ord)]
 pub enum Space {
     Asn,
     Ipv4,

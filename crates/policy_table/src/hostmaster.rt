@@ -6,7 +6,7 @@ use reg_entry::Name;
 use std::marker::Model;
 
 /// Who may ask the register for changes, and the token that says so.
-#[derive(Clone, Copy, Debug)]
+#[derive(Clone, Copy)]
 pub(crate) struct Hostmaster {
     name: Name,
     token: Token,

@@ -14,7 +14,7 @@ use std::marker::Model;
 use toml::{Table, Value};
 
 /// What is allowed of the two kinds of delegation of a space.
-#[derive(Clone, Copy, Debug)]
+#[derive(Clone, Copy)]
 pub(crate) struct Rows {
     pub(crate) allocated: Row,
     pub(crate) assigned: Row,

@@ -27,7 +27,7 @@ const PIECE: usize = 8192;
 const BLOCK: usize = 32_768;
 
 /// Why a mirror's objects aren't all written.
-#[derive(Clone, Copy, Debug, PartialEq, Eq)]
+#[derive(Clone, Copy)]
 enum Unmirrored {
     /// The script couldn't be read on.
     Read,

@@ -22,7 +22,7 @@ use reverse_zone::{Apex, apexes};
 use std::alloc::{AllocError, Global};
 
 /// Why not all of it is published.
-#[derive(Clone, Copy, Debug, PartialEq, Eq)]
+#[derive(Clone, Copy)]
 enum Unpublished {
     /// The script couldn't be read on.
     Read,

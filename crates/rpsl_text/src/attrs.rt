@@ -8,7 +8,7 @@ use std::alloc::Global;
 use std::marker::Model;
 
 /// How many bytes a name and its value have.
-#[derive(Clone, Copy, Debug, PartialEq, Eq, Drop)]
+#[derive(Clone, Copy, Drop)]
 pub(crate) struct Span {
     pub(crate) name: usize,
     pub(crate) value: usize,
@@ -16,7 +16,7 @@ pub(crate) struct Span {
 
 /// The attributes of an object, in the order in which they stand in its text. Names are in lower case; a value has single
 /// blanks between its words, and none at its ends.
-#[derive(Debug, Drop)]
+#[derive(Drop)]
 pub struct Attrs {
     // All names and values, one behind the other.
     pub(crate) bytes: Vec<u8>,

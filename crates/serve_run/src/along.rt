@@ -7,7 +7,7 @@ use link_face::Failed;
 use std::sync::Wait;
 
 /// How a way ended.
-#[derive(Clone, Copy, Debug, PartialEq, Eq)]
+#[derive(Clone, Copy)]
 pub(crate) struct WayEnd {
     /// How many links were served, up to the greatest number of the type, at which the count stays.
     pub connections: u64,

@@ -13,7 +13,7 @@ use crate::{ServeFault, Served};
 use door_face::{Gate, Outcome};
 
 /// What was taken back so far.
-#[derive(Clone, Copy, Debug, PartialEq, Eq)]
+#[derive(Clone, Copy)]
 struct Tally {
     connections: u64,
     has_failed: bool,
