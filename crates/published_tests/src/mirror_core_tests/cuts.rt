@@ -2,25 +2,36 @@
 use super::written;
 use mirror_core::Mirror;
 use std::alloc::{AllocError, Global};
+use std::fmt::Write;
 use std::test::Fail;
 
 const OPERATIONS: u64 = 300;
 
-/// A stream of so many operations. Every third takes out the object that the one before it brought.
-fn made(alloc: Global) -> Result<String, AllocError> {
-    let mut text = format!(in alloc; "%START Version: 3 EXREG 1-{OPERATIONS}\n")?;
+/// Appends an operation: every third takes out the object that the one before it brought.
+fn append_operation(serial: u64, text: &mut String) -> Result<(), AllocError> {
+    let (act, holder) = if serial % 3 == 0 {
+        ("DEL", serial.saturating_sub(1))
+    } else {
+        ("ADD", serial)
+    };
+    write!(
+        text,
+        "\n{act} {serial}\n\norganisation: ORG-{holder}\nsource: EXREG\n"
+    )
+}
+
+/// Appends a stream of so many operations.
+fn append_stream(text: &mut String) -> Result<(), AllocError> {
+    write!(text, "%START Version: 3 EXREG 1-{OPERATIONS}\n")?;
     for serial in 1..=OPERATIONS {
-        let (act, holder) = if serial % 3 == 0 {
-            ("DEL", serial.saturating_sub(1))
-        } else {
-            ("ADD", serial)
-        };
-        let operation = format!(in alloc;
-            "\n{act} {serial}\n\norganisation: ORG-{holder}\nsource: EXREG\n"
-        )?;
-        text.push_str(operation.as_str())?;
+        append_operation(serial, text)?;
     }
-    text.push_str("\n%END EXREG\n")?;
+    write!(text, "\n%END EXREG\n")
+}
+
+fn made(alloc: Global) -> Result<String, AllocError> {
+    let mut text = String::new(alloc);
+    append_stream(&mut text)?;
     Ok(text)
 }
 
