@@ -1,4 +1,5 @@
 //! Summaries of loads.
+use crate::policies::POLICY;
 use load_run::write_load;
 use policy_table::Policy;
 use reg_entry::Rooms;
@@ -12,16 +13,6 @@ const ROOMS: Rooms = Rooms {
     entries: 65_536,
     window: 1,
 };
-
-const POLICY: &[u8] = b"registry = \"exreg\"\nquarantine_days = 30\nhold_days = 365\n\
-    hostmasters = { local = \"k-local-0001\" }\n[zone]\nmname = \"ns1.exreg.example\"\nrname = \"hostmaster.exreg.example\"\n\
-    ttl = 172800\nrefresh = 7200\nretry = 1800\nexpire = 604800\nminimum = 3600\nservers = [\"ns1.exreg.example\"]\n[ipv4]\n\
-    allocated = { least = 20, most = 32, cap = 4294967296, percent = 0, kinds = [\"lir\"] }\n\
-    assigned = { least = 20, most = 32, cap = 4294967296, kinds = [\"lir\", \"enduser\"] }\n[ipv6]\n\
-    allocated = { least = 20, most = 64, cap = 2305843009213693952, percent = 0, kinds = [\"lir\"] }\n\
-    assigned = { least = 32, most = 64, cap = 2305843009213693952, kinds = [\"lir\", \"enduser\"] }\n[asn]\n\
-    allocated = { least = 1, most = 1024, cap = 4294967296, percent = 0, kinds = [\"lir\"] }\n\
-    assigned = { least = 1, most = 1024, cap = 4294967296, kinds = [\"lir\", \"enduser\"] }\n";
 
 /// A seed, how many draws, and the summary: nothing is drawn; a block of no delegation is transferred; a /21 of IPv4 is
 /// delegated.
@@ -45,7 +36,7 @@ const ROWS: [(u64, u32, &[u8]); 3] = [
 
 #[test]
 fn loads_are_told(rt: HostRuntime) -> Result<(), Fail> {
-    let policy = Policy::read(rt.alloc(), POLICY)?;
+    let policy = Policy::read(rt.alloc(), POLICY.as_bytes())?;
     for (seed, count, summary) in ROWS {
         let body = write_load(rt.alloc(), ROOMS, &policy, seed, count)?;
         assert_eq!(rt; body.bytes(), summary);
