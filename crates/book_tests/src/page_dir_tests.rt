@@ -6,9 +6,10 @@ ghost use Rattle.std.specs.Ordering.{is_le};
 ghost use Rattle.page_dir.specs.Sorted.{MeetsBelow, Rises, last_at_most, rank};
 ghost use Rattle.page_dir.specs.Splices.{spliced};
 
-use page_dir::PageDir;
+use page_dir::{PageDir, Steps};
 use std::alloc::{AllocError, Global};
-use std::marker::Model;
+use std::marker::{Brand, Model};
+use std::sync::ledger::{Blank, Ledger};
 use std::test::Fail;
 
 /// A caller's struct, which is seen as the list of its pairs.
@@ -81,6 +82,184 @@ fn ends_below<K: Ord + Copy, V: Copy>(dir: &PageDir<K, V>, from: &K, n: u32, new
         [] => true,
         [.., (last, _)] => last.cmp(&next).is_lt(),
     }
+}
+
+/// Keys that stand for numbers, in their order.
+trait Key: Ord + Copy {
+    fn of(number: u64) -> Self;
+}
+
+impl Key for u128 {
+    fn of(number: u64) -> u128 {
+        u128::from(number)
+    }
+}
+
+impl Key for (u64, u8) {
+    fn of(number: u64) -> (u64, u8) {
+        (number / 256, (number % 256) as u8)
+    }
+}
+
+impl Key for [u8; 8] {
+    fn of(number: u64) -> [u8; 8] {
+        number.to_be_bytes()
+    }
+}
+
+/// Numbers that look random.
+#[derive(Drop)]
+struct Numbers {
+    state: u64,
+}
+
+impl Numbers {
+    fn below(&mut self, bound: u64) -> u64
+        requires { 0 < bound }
+        ensures { result < bound }
+    {
+        self.state ^= self.state << 13;
+        self.state ^= self.state >> 7;
+        self.state ^= self.state << 17;
+        self.state % bound
+    }
+}
+
+/// The same splice of a plain list, where the same holds of it.
+fn splice_plain(
+    alloc: Global,
+    plain: &mut Vec<(u64, u64)>,
+    from: u64,
+    n: u64,
+    new: &[(u64, u64)],
+    room: usize,
+) -> Result<bool, AllocError> {
+    let at = plain.iter().filter(|p| p.0 < from).count();
+    let end = at.saturating_add(n as usize);
+    let tail = match plain.as_slice().get(end..) {
+        None => return Ok(false),
+        Some(rest) => rest.to_vec(alloc)?,
+    };
+    if let (Some(last), Some(next)) = (new.last(), tail.first()) {
+        if last.0 >= next.0 {
+            return Ok(false);
+        }
+    }
+    if tail.len().saturating_add(at).saturating_add(new.len()) > room {
+        return Ok(false);
+    }
+    plain.truncate(at);
+    plain.extend_from_slice(new)?;
+    plain.extend_from_slice(&tail)?;
+    Ok(true)
+}
+
+fn agrees<K: Key>(dir: &PageDir<K, u64>, plain: &[(u64, u64)]) -> bool {
+    let mut walk = dir.walk_from(&K::of(0));
+    for (number, value) in plain {
+        match walk.next() {
+            Some((key, v)) if key.cmp(&K::of(*number)).is_eq() && v == *value => {}
+            _ => return false,
+        }
+    }
+    walk.next().is_none() && dir.len() as usize == plain.len()
+}
+
+fn found<K: Ord + Copy, V: Copy, L: Ledger>(
+    dir: &PageDir<K, V>,
+    key: &K,
+    blank: Blank,
+) -> Option<(K, V)>
+    requires name { blank.name ≡ L.name }
+    requires parts { blank.parts ≡ L.parts }
+    requires some { 0 < blank.parts }
+{
+    let mut steps = Steps::<L>::new(blank);
+    dir.find(key, &mut steps)
+}
+
+/// What is found at a number, from above and from below.
+fn finds_alike<K: Key>(dir: &PageDir<K, u64>, plain: &[(u64, u64)], number: u64) -> bool {
+    let key = K::of(number);
+    let below = plain.iter().rev().find(|p| p.0 <= number).map(|p| p.1);
+    let above = plain.iter().find(|p| p.0 >= number).map(|p| p.1);
+    found::<K, u64, Brand>(dir, &key, Blank::new(1)).map(|p| p.1) == below
+        && dir.from(&key).map(|p| p.1) == above
+}
+
+/// How many pairs stand from one number up to another.
+fn counts_alike<K: Key>(
+    dir: &PageDir<K, u64>,
+    plain: &[(u64, u64)],
+    from: u64,
+    until: u64,
+) -> bool {
+    let between = plain.iter().filter(|p| from <= p.0 && p.0 < until).count();
+    dir.count_between(&K::of(from), &K::of(until)) as usize == between
+}
+
+/// One splice of each list, mostly a short one.
+fn splice_both<K: Key>(
+    alloc: Global,
+    dir: &mut Listed<K, u64>,
+    plain: &mut Vec<(u64, u64)>,
+    numbers: &mut Numbers,
+) -> Result<bool, AllocError> {
+    let from = numbers.below(1_000_000);
+    let most = if numbers.below(40) == 0 { 150 } else { 4 };
+    let n = numbers.below(most);
+    let come = numbers.below(most);
+    let mut new = Vec::new(alloc);
+    let mut keyed = Vec::new(alloc);
+    for i in 0..come {
+        let value = numbers.below(1_000);
+        new.push((from + i, value))?;
+        keyed.push((K::of(from + i), value))?;
+    }
+    let did = splice_plain(alloc, plain, from, n, &new, 3_000)?;
+    Ok(dir.splice(&K::of(from), n as u32, &keyed) == did)
+}
+
+/// Splices both lists, and compares them after each hundred.
+fn drive_both<K: Key>(
+    alloc: Global,
+    dir: &mut Listed<K, u64>,
+    plain: &mut Vec<(u64, u64)>,
+    splices: u32,
+) -> Result<bool, AllocError> {
+    let mut numbers = Numbers {
+        state: 88_172_645_463_325_252,
+    };
+    for i in 0..splices {
+        if !splice_both(alloc, dir, plain, &mut numbers)? {
+            return Ok(false);
+        }
+        if i % 100 == 99 {
+            let number = numbers.below(1_000_000);
+            let (from, until) = (numbers.below(1_000_000), numbers.below(1_000_000));
+            let alike = agrees(&dir.dir, plain) && finds_alike(&dir.dir, plain, number);
+            if !alike || !counts_alike(&dir.dir, plain, from, until) {
+                return Ok(false);
+            }
+        }
+    }
+    Ok(true)
+}
+
+fn drive<K: Key>(alloc: Global, splices: u32) -> Result<bool, AllocError> {
+    let mut plain = Vec::new(alloc);
+    let mut dir = Listed {
+        dir: PageDir::<K, u64>::with_room(alloc, 3_000)?,
+    };
+    drive_both(alloc, &mut dir, &mut plain, splices)
+}
+
+#[test]
+fn random_splices(rt: HostRuntime) -> Result<(), Fail> {
+    assert!(rt; drive::<u128>(rt.alloc(), 20_000)?);
+    assert!(rt; drive::<(u64, u8)>(rt.alloc(), 2_000)?);
+    assert!(rt; drive::<[u8; 8]>(rt.alloc(), 2_000)?);
+    Ok(())
 }
 
 /// From which number on, how many pairs go, how many come with the numbers from there on, whether that may be, and how many
