@@ -2,8 +2,8 @@
 ghost use Rattle.std.specs.Prelude.{◌≡◌};
 
 mod connections;
+mod desks;
 
-use crate::policies::POLICY;
 use board::{Answer, Board, Lens};
 use connections::{EACH_KIND, ENDS, NARROWEST};
 use hall::{Backend, Fault, serve};
@@ -13,6 +13,16 @@ use reg_entry::{Name, Reply, Request, Rooms};
 use std::alloc::{AllocError, Global};
 use std::test::Fail;
 use wire_http::{ConnEnd, Framer};
+
+const POLICY: &[u8] = b"registry = \"exreg\"\nquarantine_days = 30\nhold_days = 365\n\
+    hostmasters = { local = \"k-local-0001\" }\n[zone]\nmname = \"ns1.exreg.example\"\nrname = \"hostmaster.exreg.example\"\n\
+    ttl = 172800\nrefresh = 7200\nretry = 1800\nexpire = 604800\nminimum = 3600\nservers = [\"ns1.exreg.example\"]\n[ipv4]\n\
+    allocated = { least = 20, most = 32, cap = 4294967296, percent = 0, kinds = [\"lir\"] }\n\
+    assigned = { least = 20, most = 32, cap = 4294967296, kinds = [\"lir\", \"enduser\"] }\n[ipv6]\n\
+    allocated = { least = 20, most = 64, cap = 2305843009213693952, percent = 0, kinds = [\"lir\"] }\n\
+    assigned = { least = 32, most = 64, cap = 2305843009213693952, kinds = [\"lir\", \"enduser\"] }\n[asn]\n\
+    allocated = { least = 1, most = 1024, cap = 4294967296, percent = 0, kinds = [\"lir\"] }\n\
+    assigned = { least = 1, most = 1024, cap = 4294967296, kinds = [\"lir\", \"enduser\"] }\n";
 
 const NO_MEMORY: &[u8] = b"HTTP/1.1 503 Service Unavailable\r\n\
     Content-Type: application/rdap+json\r\n\
@@ -105,7 +115,7 @@ fn served(alloc: Global, trial: &Trial<'_>) -> Result<Option<Outcome>, AllocErro
         return Ok(None);
     }
     let mut framer = Framer::new(alloc)?;
-    let Ok(policy) = Policy::read(alloc, POLICY.as_bytes()) else {
+    let Ok(policy) = Policy::read(alloc, POLICY) else {
         return Ok(None);
     };
     let mut link: FailingLink<'_> = Joined {
@@ -265,7 +275,7 @@ const ASKED: &[u8] = b"GET /stats HTTP/1.1\r\nHost: r\r\n\r\n\
 fn is_told(alloc: Global, fault: Fault, reply: &[u8]) -> Result<bool, AllocError> {
     let mut backend = Broken(fault);
     let mut framer = Framer::new(alloc)?;
-    let Ok(policy) = Policy::read(alloc, POLICY.as_bytes()) else {
+    let Ok(policy) = Policy::read(alloc, POLICY) else {
         return Ok(false);
     };
     let mut link = Joined {

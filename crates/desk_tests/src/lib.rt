@@ -6,6 +6,4 @@ mod desk_book_tests;
 #[cfg(test)]
 mod hall_tests;
 #[cfg(test)]
-mod policies;
-#[cfg(test)]
 mod serve_run_tests;

@@ -2,7 +2,6 @@
 ghost use Rattle.std.specs.Prelude.{◌≡◌, [], IfOk};
 ghost use Rattle.door_face.specs.MemGate.{IsUnused};
 
-use crate::policies::POLICY;
 use door_face::{
     Door, FailingGate, FailingInTurn, Gate, InTurn, MemGate, MemWay, Spawner, ThreadSpawner,
 };
@@ -14,6 +13,16 @@ use std::alloc::{AllocError, Global};
 use std::sync::Wait;
 use std::test::Fail;
 use std::thread::Threads;
+
+const POLICY: &[u8] = b"registry = \"exreg\"\nquarantine_days = 30\nhold_days = 365\n\
+    hostmasters = { local = \"k-local-0001\" }\n[zone]\nmname = \"ns1.exreg.example\"\nrname = \"hostmaster.exreg.example\"\n\
+    ttl = 172800\nrefresh = 7200\nretry = 1800\nexpire = 604800\nminimum = 3600\nservers = [\"ns1.exreg.example\"]\n[ipv4]\n\
+    allocated = { least = 20, most = 32, cap = 4294967296, percent = 0, kinds = [\"lir\"] }\n\
+    assigned = { least = 20, most = 32, cap = 4294967296, kinds = [\"lir\", \"enduser\"] }\n[ipv6]\n\
+    allocated = { least = 20, most = 64, cap = 2305843009213693952, percent = 0, kinds = [\"lir\"] }\n\
+    assigned = { least = 32, most = 64, cap = 2305843009213693952, kinds = [\"lir\", \"enduser\"] }\n[asn]\n\
+    allocated = { least = 1, most = 1024, cap = 4294967296, percent = 0, kinds = [\"lir\"] }\n\
+    assigned = { least = 1, most = 1024, cap = 4294967296, kinds = [\"lir\", \"enduser\"] }\n";
 
 const ROOMS: Rooms = Rooms {
     pieces: 16,
@@ -61,11 +70,6 @@ const QUERY: &[u8] = b"-g OTHER:3:1-LAST\n";
 
 const ANSWER: &[u8] = b"%ERROR: unknown source\n";
 
-const STREAM_QUERY: &[u8] = b"-g EXREG:3:1-LAST\n";
-
-const STREAM: &[u8] = b"%START Version: 3 EXREG 1-1\n\nADD 1\n\n\
-    inetnum: 192.0.2.0 - 192.0.2.255\nstatus: available\nsource: EXREG\n\n%END EXREG\n";
-
 // A connection on which the text comes.
 fn link_of(alloc: Global, text: &[u8]) -> MemLink<'_>
     ensures taken { result.source.taken ≡ [] }
@@ -89,21 +93,21 @@ fn http_way(alloc: Global) -> Result<MemWay<MemLink<'static>>, AllocError>
 }
 
 // A way with the connection of one line.
-fn line_way(alloc: Global, query: &'static [u8]) -> Result<MemWay<MemLink<'static>>, AllocError>
+fn line_way(alloc: Global) -> Result<MemWay<MemLink<'static>>, AllocError>
     ensures { IfOk result IsUnused }
 {
     let mut way = MemWay::new(alloc);
-    way.add(link_of(alloc, query))?;
+    way.add(link_of(alloc, QUERY))?;
     Ok(way)
 }
 
 // A gate with a way at each door: two connections over HTTP, and one of a line.
-fn gate_of(alloc: Global, query: &'static [u8]) -> Result<MemGate<MemLink<'static>>, AllocError>
+fn gate_of(alloc: Global) -> Result<MemGate<MemLink<'static>>, AllocError>
     ensures { IfOk result (λ gate. gate.lent ≡ 0) }
 {
     let mut gate = MemGate::new(alloc);
     gate.add(Door::Http, http_way(alloc)?)?;
-    gate.add(Door::Line, line_way(alloc, query)?)?;
+    gate.add(Door::Line, line_way(alloc)?)?;
     Ok(gate)
 }
 
@@ -114,7 +118,7 @@ fn serves<R: Threads + Wait + Sync, G: Gate, P: Spawner>(
     gate: &mut G,
     spawner: &mut P,
 ) -> Option<Result<u64, ServeFault>> {
-    match Policy::read(alloc, POLICY.as_bytes()) {
+    match Policy::read(alloc, POLICY) {
         Ok(policy) => Some(serve(rt, alloc, ROOMS, &policy, DOORS, &DAY, gate, spawner)),
         Err(_) => None,
     }
@@ -157,33 +161,24 @@ fn is_served<R: Threads + Wait + Sync, P: Spawner>(
     Ok(ended && is_joined(&text, wanted))
 }
 
-// The same through a gate of its own, at whose second door this line comes.
+// The same through a gate of its own.
 fn is_served_through_one<R: Threads + Wait + Sync, P: Spawner>(
     rt: &R,
     alloc: Global,
-    query: &'static [u8],
     spawner: &mut P,
     ends: Result<u64, ServeFault>,
     wanted: &[&[u8]],
 ) -> Result<bool, AllocError> {
-    let mut gate = gate_of(alloc, query)?;
+    let mut gate = gate_of(alloc)?;
     is_served(rt, alloc, &mut gate, spawner, ends, wanted)
 }
 
-// One door after the other, so that the line asks for what was received before.
 #[test]
-fn serves_doors_in_turn(rt: HostRuntime) -> Result<(), Fail> {
-    let wanted = [RECEIVED, HELPED, STREAM];
-    let mut turns = InTurn;
-    assert!(rt; is_served_through_one(&rt, rt.alloc(), STREAM_QUERY, &mut turns, Ok(3), &wanted)?);
-    Ok(())
-}
-
-#[test]
-fn serves_doors_side_by_side(rt: HostRuntime) -> Result<(), Fail> {
+fn serves_both_doors(rt: HostRuntime) -> Result<(), Fail> {
     let wanted = [RECEIVED, HELPED, ANSWER];
+    assert!(rt; is_served_through_one(&rt, rt.alloc(), &mut InTurn, Ok(3), &wanted)?);
     let mut threads = ThreadSpawner::new();
-    assert!(rt; is_served_through_one(&rt, rt.alloc(), QUERY, &mut threads, Ok(3), &wanted)?);
+    assert!(rt; is_served_through_one(&rt, rt.alloc(), &mut threads, Ok(3), &wanted)?);
     Ok(())
 }
 
@@ -209,7 +204,7 @@ fn fails_at<R: Threads + Wait + Sync>(
     faults: u64,
     wanted: &[&[u8]],
 ) -> Result<bool, AllocError> {
-    let mut gate = FailingGate::new(gate_of(alloc, QUERY)?, calls, accepts);
+    let mut gate = FailingGate::new(gate_of(alloc)?, calls, accepts);
     is_failed(rt, alloc, &mut gate, faults, wanted)
 }
 
@@ -226,14 +221,7 @@ fn gates_fail(rt: HostRuntime) -> Result<(), Fail> {
 fn spawners_fail(rt: HostRuntime) -> Result<(), Fail> {
     let mut spawner = FailingInTurn::new(&[1]);
     let ends = Err(ServeFault::Spawn);
-    let served = is_served_through_one(
-        &rt,
-        rt.alloc(),
-        QUERY,
-        &mut spawner,
-        ends,
-        &[RECEIVED, HELPED],
-    )?;
+    let served = is_served_through_one(&rt, rt.alloc(), &mut spawner, ends, &[RECEIVED, HELPED])?;
     assert!(rt; served && spawner.faults() == 1);
     Ok(())
 }
