@@ -10,8 +10,9 @@ ghost use Rattle.course_core.specs.Course.{new_course, decided, seen_by, serial_
 ghost use Rattle.course_core.specs.Promises.{KeepsPromises, NothingFalls};
 ghost use Rattle.course_core.specs.Kept.{IsReached, kept_serial, HasIds};
 
+use crate::decision::decide;
 use crate::{Event, Said};
-use plain_register::{PlainRegister, decide};
+use plain_register::PlainRegister;
 use policy_table::Policy;
 use reg_entry::{Entry, Name, Reply, Request, Rooms};
 use std::alloc::{AllocError, Global};

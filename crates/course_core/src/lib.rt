@@ -3,8 +3,11 @@
 #![tactic(auto)]
 
 mod course;
+mod decision;
 mod event;
 pub mod laws;
+mod policy_rules;
+mod proposal;
 
 pub use course::Course;
 pub use event::{Event, Said};

@@ -5,8 +5,4 @@ pub mod Parts
 pub mod FoundPieces
 pub mod Known
 pub mod Rounding
-pub mod Hundredths
-pub mod PieceSizes
-pub mod PolicyRows
-pub mod Refusals
 pub mod Counting

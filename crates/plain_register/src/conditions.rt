@@ -76,7 +76,7 @@ impl PlainRegister {
     }
 
     /// The number of the holder with this handle.
-    pub(crate) fn by_handle(&self, handle: &Handle) -> Option<u32>
+    pub fn by_handle(&self, handle: &Handle) -> Option<u32>
         ensures number { result ≡ holder_number self.now.holders handle.now }
         ensures within { IfSome result (λ number. number < length self.now.holders) }
     {

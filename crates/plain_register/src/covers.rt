@@ -1,10 +1,12 @@
 //! What an accepted request paints: its cover and its card.
 ghost use Rattle.std.specs.Prelude.{◌≡◌};
-ghost use Rattle.reg_entry.specs.Covers.{across, number_before, cover_for, card_for};
+ghost use Rattle.reg_entry.specs.Covers.{across, number_before, chosen_start, cover_for, card_for};
 ghost use Rattle.reg_entry.specs.Register.{piece_of};
+ghost use Rattle.reg_entry.specs.Request.{IsSizedRequest};
 ghost use Rattle.plain_register.specs.Starts.{MayStartAt};
 
 use crate::PlainRegister;
+use crate::least_block::least_block;
 use num_range::{Number, Range};
 use reg_entry::{Card, Request, Status};
 
@@ -18,9 +20,24 @@ impl PlainRegister {
         Some(Range::between(at.space(), left.range.first(), right.range.last()))
     }
 
+    /// Where the block of a delegation starts. Nothing is sought for any other request.
+    pub fn chosen_start(&self, request: &Request) -> Option<u128>
+        requires { IsSizedRequest request.now }
+        ensures start { result ≡ chosen_start self.now request.now }
+        ensures may { MayStartAt request.now result }
+    {
+        match request {
+            Request::Delegate { space, amount, .. } => {
+                let size = space.amount_size(*amount);
+                least_block(self.pieces_in(*space), *space, size)
+            }
+            _ => None,
+        }
+    }
+
     /// The range that an entry of the request paints or reshapes. The block of a delegation starts at the start, where
     /// there is one; no other request looks at it.
-    pub(crate) fn cover_for(&self, request: &Request, start: Option<u128>) -> Option<Range>
+    pub fn cover_for(&self, request: &Request, start: Option<u128>) -> Option<Range>
         requires { MayStartAt request.now start }
         ensures { result ≡ cover_for self.now request.now start }
     {
@@ -48,7 +65,7 @@ impl PlainRegister {
     }
 
     /// The card that an entry of the request paints on a day, kept up to another where the request has such a day.
-    pub(crate) fn card_for(&self, request: &Request, day: u32, until: u32) -> Option<Card>
+    pub fn card_for(&self, request: &Request, day: u32, until: u32) -> Option<Card>
         ensures { result ≡ card_for self.now request.now day until }
     {
         match request {

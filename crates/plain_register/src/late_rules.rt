@@ -78,7 +78,7 @@ impl PlainRegister {
     /// Why a request that the register knows how to do can't be done on a day with this cover and card, or nothing: its
     /// time hasn't come, there is no block, or there is no room. How many pieces there would be is found by writing them
     /// beside the register, which stays.
-    pub(crate) fn late_refusal(
+    pub fn late_refusal(
         &mut self,
         request: &Request,
         day: u32,

@@ -4,22 +4,18 @@
 mod changes;
 mod conditions;
 mod covers;
-mod decision;
 mod early_rules;
 mod holders;
 mod late_rules;
 mod laying;
 mod least_block;
 mod pieces;
-mod policy_rules;
 mod pool;
 mod pooled;
-mod proposal;
 mod ranges;
 mod register;
 mod reverse_conditions;
 mod sub_conditions;
 mod sums;
 
-pub use decision::decide;
 pub use register::PlainRegister;

@@ -2,18 +2,20 @@
 ghost use Rattle.std.specs.Prelude.{◌≡◌, ◌+◌, ◌<◌, ◌≤◌, ◌^◌, ◌==◌, if◌then◌else◌, IfOk, IfSome, length, vec_len, vec_capacity};
 ghost use Rattle.reg_entry.specs.Rooms.{AreRooms};
 ghost use Rattle.reg_entry.specs.Register.{empty_register, after_entry, register_pieces, piece_of, holders_after, subs_after, reverses_after};
+ghost use Rattle.reg_entry.specs.Decision.{entry_day};
+ghost use Rattle.reg_entry.specs.Holders.{holder_named};
 ghost use Rattle.reg_entry.specs.Next.{IsNextEntry};
 ghost use Rattle.reg_entry.specs.Pieces.{ArePieces};
 ghost use Rattle.reg_entry.specs.Whole.{IsWholeRegister};
 ghost use Rattle.plain_register.specs.FoundPiece.{IsFoundIn};
 ghost use Rattle.reg_laws.specs.Reached.{IsReached};
 
-use crate::holders::{edit, holder_number};
+use crate::holders::{edit, holder_named, holder_number};
 use crate::pieces::piece_at;
 use crate::pool::Pool;
 use crate::ranges::{drop_inside, put, take_out};
 use num_range::{Number, Range, Space};
-use reg_entry::{Entry, Holder, Piece, Request, Rooms, Servers, SubCard};
+use reg_entry::{Entry, Handle, Holder, Piece, Request, Rooms, Servers, SubCard, clamped_day};
 use reg_laws::painting::next_entries_can_be_painted;
 use reg_laws::reached::{entries_reach_registers, reached_registers_are_whole};
 use reg_laws::whole::next_entry_keeps_whole;
@@ -197,6 +199,20 @@ impl PlainRegister {
         self.entries
     }
 
+    /// The day of the next entry: no entry is older than the one before it.
+    pub fn entry_day(&self, day: u32) -> u32
+        ensures { result ≡ entry_day self.now day }
+    {
+        clamped_day(day).max(self.last_day)
+    }
+
+    /// The holder with this handle.
+    pub fn holder_named(&self, handle: &Handle) -> Option<Holder>
+        ensures { result ≡ holder_named self.now.holders handle.now }
+    {
+        holder_named(&self.holders, handle)
+    }
+
     /// The pieces of a space.
     pub(crate) fn pieces_in(&self, space: Space) -> &[Piece]
         ensures pieces { result.now ≡ register_pieces self.now space }
@@ -208,7 +224,7 @@ impl PlainRegister {
 
     /// The piece that holds the number.
     #[tactic(auto, using(crate::proofs::FoundPieces::found_if))]
-    pub(crate) fn piece_of(&self, n: Number) -> Option<Piece>
+    pub fn piece_of(&self, n: Number) -> Option<Piece>
         ensures piece { result ≡ piece_of self.now.pool n }
         ensures found { IfSome result (IsFoundIn n.space 0 n.value) }
     {

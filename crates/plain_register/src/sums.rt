@@ -74,7 +74,7 @@ fn used_size(subs: &[(Range, SubCard)], pieces: &[Piece], holder: u32) -> u128
 
 impl PlainRegister {
     /// How many numbers of the space are delegated to the holder of this number.
-    pub(crate) fn held(&self, holder: u32, space: Space) -> u128
+    pub fn held(&self, holder: u32, space: Space) -> u128
         ensures { result ≡ held self.now holder space }
     {
         // A law: they are a number of the type.
@@ -84,7 +84,7 @@ impl PlainRegister {
     }
 
     /// How many of these are allocated.
-    pub(crate) fn allocated(&self, holder: u32, space: Space) -> u128
+    pub fn allocated(&self, holder: u32, space: Space) -> u128
         ensures { result ≡ allocated self.now holder space }
     {
         // A law: they are a number of the type.
@@ -94,7 +94,7 @@ impl PlainRegister {
     }
 
     /// How many of these are used: the numbers of the subs in them, whoever holds the subs.
-    pub(crate) fn used(&self, holder: u32, space: Space) -> u128
+    pub fn used(&self, holder: u32, space: Space) -> u128
         ensures { result ≡ used self.now holder space }
     {
         // Laws: they are a number of the type.

@@ -2,29 +2,19 @@
 ghost use Rattle.std.specs.Prelude.{◌≡◌, None};
 ghost use Rattle.num_range.specs.Number.{PlainNumber};
 ghost use Rattle.reg_entry.specs.declared.request.Request.TheVariants.{Split};
-ghost use Rattle.reg_entry.specs.Covers.{chosen_start};
 ghost use Rattle.reg_entry.specs.Days.{days_later};
-ghost use Rattle.reg_entry.specs.Decision.{entry_day, until_for, proposed_entry};
-ghost use Rattle.plain_register.specs.Starts.{MayStartAt};
+ghost use Rattle.reg_entry.specs.Decision.{until_for, proposed_entry};
 ghost use Rattle.reg_entry.specs.Request.{IsSizedRequest};
 
-use crate::PlainRegister;
-use crate::least_block::least_block;
+use plain_register::PlainRegister;
 use policy_table::Policy;
-use reg_entry::{Entry, LAST_DATE, Name, Request, clamped_day};
+use reg_entry::{Entry, LAST_DATE, Name, Request};
 
 /// So many days later, or the greatest day.
 fn days_later(day: u32, days: u32) -> u32
     ensures { result ≡ days_later day days }
 {
     day.saturating_add(days).min(LAST_DATE)
-}
-
-/// The day of the next entry: no entry is older than the one before it.
-fn entry_day(register: &PlainRegister, day: u32) -> u32
-    ensures { result ≡ entry_day register.now day }
-{
-    clamped_day(day).max(register.last_day)
 }
 
 /// The day up to which the policy keeps a returned or transferred piece as it is.
@@ -35,21 +25,6 @@ fn until_for(policy: &Policy, request: &Request, day: u32) -> u32
         Request::Return { .. } => days_later(day, policy.quarantine_days()),
         Request::Transfer { .. } => days_later(day, policy.hold_days()),
         _ => 0,
-    }
-}
-
-/// Where the block of a delegation starts. Nothing is sought for any other request.
-fn chosen_start(register: &PlainRegister, request: &Request) -> Option<u128>
-    requires { IsSizedRequest request.now }
-    ensures start { result ≡ chosen_start register.now request.now }
-    ensures may { MayStartAt request.now result }
-{
-    match request {
-        Request::Delegate { space, amount, .. } => {
-            let size = space.amount_size(*amount);
-            least_block(register.pieces_in(*space), *space, size)
-        }
-        _ => None,
     }
 }
 
@@ -64,14 +39,14 @@ pub(crate) fn proposed_entry(
     ensures entry { result ≡ proposed_entry register.now policy.now day who.now request.now }
     ensures split { (at : PlainNumber) → request.now ≡ Split at → result.card ≡ None }
 {
-    let day = entry_day(register, day);
+    let day = register.entry_day(day);
     let until = until_for(policy, request, day);
     Entry {
         seq: register.entries() + 1,
         day,
         who: *who,
         request: *request,
-        cover: register.cover_for(request, chosen_start(register, request)),
+        cover: register.cover_for(request, register.chosen_start(request)),
         card: register.card_for(request, day, until),
     }
 }

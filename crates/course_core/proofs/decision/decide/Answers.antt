@@ -3,8 +3,8 @@ use Rattle.std.proofs.lemmas.Option.{none-some}
 use Rattle.reg_entry.specs.Covers.{IsLeastCover}
 use Rattle.reg_entry.specs.Decision.{decision}
 use Rattle.reg_entry.specs.Next.{IsNextEntry}
-use Rattle.plain_register.proofs.Refusals.{refused_is, late_is, accepted_is, of_accepted}
-use Rattle.plain_register.proofs.decision.decide.Goals as goal
+use Rattle.course_core.proofs.Refusals.{refused_is, late_is, accepted_is, of_accepted}
+use Rattle.course_core.proofs.decision.decide.Goals as goal
 
 pub returns-in-Some-clause-decision : goal.returns-in-Some-clause-decision
 returns-in-Some-clause-decision c =

@@ -7,9 +7,8 @@ ghost use Rattle.reg_entry.specs.Register.{piece_of};
 ghost use Rattle.reg_entry.specs.Request.{has_size, status_of, IsSizedRequest};
 ghost use Rattle.reg_entry.specs.Decision.{first_of, on_piece, amount_out_of_policy, kind_left_out, over_cap, under_used, delegate_rules, transferred_size, transfer_rules, policy_rules};
 
-use crate::PlainRegister;
-use crate::holders::holder_named;
 use num_range::{Range, Space};
+use plain_register::PlainRegister;
 use policy_table::Policy;
 use reg_entry::{Delegation, Handle, Kind, Piece, Refusal, Request, Row, Status};
 use reg_laws::holdings::holdings_are_bounded;
@@ -36,7 +35,7 @@ fn lists_kind(row: &Row, kind: Kind) -> bool
 fn kind_left_out(register: &PlainRegister, row: &Row, handle: &Handle) -> Option<Refusal>
     ensures { result ≡ kind_left_out register.now row.now handle.now }
 {
-    let kind = holder_named(&register.holders, handle)?.kind;
+    let kind = register.holder_named(handle)?.kind;
     Refusal::HolderKind { kind }.when(!lists_kind(row, kind))
 }
 

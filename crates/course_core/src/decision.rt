@@ -8,9 +8,9 @@ ghost use Rattle.reg_entry.specs.Next.{IsNextEntry};
 ghost use Rattle.reg_entry.specs.Covers.{IsLeastCover};
 ghost use Rattle.reg_entry.specs.Request.{IsSizedRequest};
 
-use crate::PlainRegister;
 use crate::policy_rules::policy_refusal;
 use crate::proposal::proposed_entry;
+use plain_register::PlainRegister;
 use policy_table::Policy;
 use reg_entry::{Entry, Name, Refusal, Reply, Request};
 use reg_laws::next::accepted_may_come_next;
@@ -49,7 +49,7 @@ fn late_refusal(register: &mut PlainRegister, e: &Entry) -> Option<Refusal>
 /// covers the least free block of their size. The register stays as it is: beside it the pieces are written that there would
 /// be, to count them.
 #[tactic(auto, using(crate::proofs::Refusals::refused_before))]
-pub fn decide(
+pub(crate) fn decide(
     register: &mut PlainRegister,
     policy: &Policy,
     day: u32,
