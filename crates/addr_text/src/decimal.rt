@@ -3,6 +3,7 @@ ghost use Rattle.std.specs.Prelude.{◌≡◌, ◌≢◌, ℕ, ◌<◌, ◌≤�
 ghost use Rattle.addr_text.specs.Reading.{decimal_up_to};
 ghost use Rattle.arrayvec.specs.ArrayVec.{array_vec_len};
 
+use crate::fitting::append;
 use arrayvec::ArrayVec;
 use itoa::Buffer;
 
@@ -38,16 +39,11 @@ pub fn read_decimal(text: &[u8]) -> Option<u32>
 }
 
 /// Appends the number's decimal.
-#[tactic(auto, using(std::proofs::lemmas::Fmt::decimal_digit, std::proofs::lemmas::Fmt::decimal_step, crate::proofs::Decimals::length_decimal))]
 pub(crate) fn push_decimal(n: u32, out: &mut ArrayVec<u8, 96>)
     requires room { array_vec_len out.old + length (decimal n) ≤ 96 }
     ensures text { out.new.items ≡ out.old.items ++ decimal n }
     ensures len { array_vec_len out.new ≡ array_vec_len out.old + length (decimal n) }
 {
-    if n < 10 {
-        out.push(b'0' + n as u8);
-    } else {
-        push_decimal(n / 10, out);
-        out.push(b'0' + (n % 10) as u8);
-    }
+    let mut buffer = Buffer::new();
+    append(buffer.format(n).as_bytes(), out);
 }

@@ -30,46 +30,45 @@ pub enum Verb {
 pub fn read_verb(word: &[u8]) -> Option<Verb>
     ensures { result ≡ verb_of word.now }
 {
-    let verb = if word == b"receive".as_slice() {
-        Verb::Receive
+    if word == b"receive".as_slice() {
+        Some(Verb::Receive)
     } else if word == b"holder".as_slice() {
-        Verb::Holder
+        Some(Verb::Holder)
     } else if word == b"edit".as_slice() {
-        Verb::Edit
+        Some(Verb::Edit)
     } else if word == b"delegate".as_slice() {
-        Verb::Delegate
+        Some(Verb::Delegate)
     } else if word == b"reserve".as_slice() {
-        Verb::Reserve
+        Some(Verb::Reserve)
     } else if word == b"unreserve".as_slice() {
-        Verb::Unreserve
+        Some(Verb::Unreserve)
     } else if word == b"sub".as_slice() {
-        Verb::Sub
+        Some(Verb::Sub)
     } else if word == b"unsub".as_slice() {
-        Verb::Unsub
+        Some(Verb::Unsub)
     } else if word == b"return".as_slice() {
-        Verb::Return
+        Some(Verb::Return)
     } else if word == b"release".as_slice() {
-        Verb::Release
+        Some(Verb::Release)
     } else if word == b"split".as_slice() {
-        Verb::Split
+        Some(Verb::Split)
     } else if word == b"join".as_slice() {
-        Verb::Join
+        Some(Verb::Join)
     } else if word == b"transfer".as_slice() {
-        Verb::Transfer
+        Some(Verb::Transfer)
     } else if word == b"reverse".as_slice() {
-        Verb::Reverse
+        Some(Verb::Reverse)
     } else if word == b"unreverse".as_slice() {
-        Verb::Unreverse
+        Some(Verb::Unreverse)
     } else if word == b"show".as_slice() {
-        Verb::Show
+        Some(Verb::Show)
     } else if word == b"due".as_slice() {
-        Verb::Due
+        Some(Verb::Due)
     } else if word == b"day".as_slice() {
-        Verb::Day
+        Some(Verb::Day)
     } else if word == b"by".as_slice() {
-        Verb::By
+        Some(Verb::By)
     } else {
-        return None;
-    };
-    Some(verb)
+        None
+    }
 }
