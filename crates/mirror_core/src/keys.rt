@@ -106,22 +106,21 @@ enum ClassName {
 fn class_named(name: &[u8]) -> Option<ClassName>
     ensures { option_map row_of result ≡ class_named name.now }
 {
-    let class = if name == b"organisation".as_slice() {
-        ClassName::Organisation
+    if name == b"organisation".as_slice() {
+        Some(ClassName::Organisation)
     } else if name == b"as-block".as_slice() {
-        ClassName::AsBlock
+        Some(ClassName::AsBlock)
     } else if name == b"inetnum".as_slice() {
-        ClassName::Inetnum
+        Some(ClassName::Inetnum)
     } else if name == b"inet6num".as_slice() {
-        ClassName::Inet6num
+        Some(ClassName::Inet6num)
     } else if name == b"sub-assignment".as_slice() {
-        ClassName::SubAssignment
+        Some(ClassName::SubAssignment)
     } else if name == b"domain".as_slice() {
-        ClassName::Domain
+        Some(ClassName::Domain)
     } else {
-        return None;
-    };
-    Some(class)
+        None
+    }
 }
 
 /// The key that a value of the class spells.

@@ -12,7 +12,8 @@ use std::alloc::{AllocError, Global};
 fn property_value(alloc: Global, name: &str, value: &str) -> Result<Value, AllocError>
     ensures { IfOk result (λ v. view v ≡ property_tree name.now value.now) }
 {
-    json!(in alloc; [name, {}, "text", value])
+    let parameters = json!(in alloc; {})?;
+    json!(in alloc; [name, parameters, "text", value])
 }
 
 fn vcard_value(alloc: Global, holder: &Holder) -> Result<Value, AllocError>
