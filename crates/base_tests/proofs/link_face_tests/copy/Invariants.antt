@@ -1,6 +1,6 @@
 use Rattle.std.proofs.Common.{ℕ, ◌≤◌, List}
 use Rattle.std.specs.Io.KnownBytes.{Appends, Consumes}
-use Rattle.link_tests.proofs.link_face_tests.copy.Given as goal
+use Rattle.base_tests.proofs.link_face_tests.copy.Given as goal
 
 abbrev pub invariant-loop-failed : goal.invariant-loop-failed
 invariant-loop-failed g l =

@@ -1,7 +1,7 @@
 use Rattle.std.proofs.Common.{ℕ, List, Option, ◌++◌, ◌∙◌, take, sym, subst}
 use Rattle.std.specs.Io.KnownBytes.{Appends, Consumes}
 use Rattle.std.proofs.KnownBytes.{Consumes-trans, Appends-trans}
-use Rattle.link_tests.proofs.link_face_tests.links.echo.Goals as goal
+use Rattle.base_tests.proofs.link_face_tests.links.echo.Goals as goal
 
 -- a read keeps what was written, and a write what was taken and what is left
 pub pieces-preserved : goal.pieces-preserved

@@ -1,6 +1,6 @@
 use Rattle.std.proofs.Common.{◌≡◌, ℕ, List}
 use Rattle.std.specs.Io.KnownBytes.{Appends, Consumes}
-use Rattle.link_tests.proofs.link_face_tests.links.echo.Given as goal
+use Rattle.base_tests.proofs.link_face_tests.links.echo.Given as goal
 
 abbrev pub invariant-pieces : goal.invariant-pieces
 invariant-pieces g l = record {

@@ -1,6 +1,6 @@
 use Rattle.std.proofs.Common.{◌++◌, take, arith}
 use Rattle.std.proofs.KnownBytes.{Consumes-trans, Appends-trans}
-use Rattle.link_tests.proofs.link_face_tests.copy.Goals as goal
+use Rattle.base_tests.proofs.link_face_tests.copy.Goals as goal
 
 pub loop-failed-preserved : goal.loop-failed-preserved
 loop-failed-preserved g c =
