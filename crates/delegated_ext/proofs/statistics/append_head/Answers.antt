@@ -1,4 +1,5 @@
-use Rattle.std.proofs.Common.{ℕ, List, ◌++◌, ◌∙◌, ap}
+use Rattle.std.proofs.Common.{ℕ, List, ◌++◌, ◌∙◌, ap, arith}
+use Rattle.std.proofs.lemmas.Grind.{common_steps}
 use Rattle.num_range.specs.declared.space.Space.TheVariants.{Asn, Ipv4, Ipv6}
 use Rattle.reg_entry.specs.Register.{Register}
 use Rattle.delegated_ext.specs.StatisticsText.{version_line, summary_line, summary_of}
@@ -18,3 +19,6 @@ returns c =
     (c.in_ok-append_summary.ensures ∙ ap (λ n. c.append_version.new.body ++ summary_line registry Asn n) asn)
     (c.in_ok-append_summary-2.ensures ∙ ap (λ n. c.append_summary.new.body ++ summary_line registry Ipv4 n) ipv4)
     (c.in_ok-append_summary-3.ensures ∙ ap (λ n. c.append_summary-2.new.body ++ summary_line registry Ipv6 n) ipv6)
+
+pub append_version-requires : goal.append_version-requires
+append_version-requires c = grind (arith, common_steps)

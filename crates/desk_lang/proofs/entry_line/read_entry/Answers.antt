@@ -1,4 +1,4 @@
-use Rattle.std.proofs.Common.{◌≡◌, ◌∙◌, Some, length, ap, subst, arith}
+use Rattle.std.proofs.Common.{◌≡◌, ◌∙◌, Some, length, ap, subst, arith, rules}
 use Rattle.desk_lang.specs.EntryReading.{IsWritableEntry}
 use Rattle.desk_text.specs.EntryText.{entry_text}
 use Rattle.desk_lang.proofs.ReadEntries.{entry_found, length_entry}
@@ -41,3 +41,6 @@ returns-then-not-is_text_of-clause-found c = λ e h. absurd (returns-then-not-is
 
 pub returns-clause-found : goal.returns-clause-found
 returns-clause-found c = λ e h. let found = entry_found c.args.text.now e h in let same : c.in-Ok.entry ≡ e = cc in ap (λ x. Some x) same
+
+pub returns-clause-some : goal.returns-clause-some
+returns-clause-some c = search rules

@@ -1,4 +1,4 @@
-use Rattle.std.proofs.Common.{◌≡◌, ◌+◌, ◌-◌, ◌∙◌, length, arith, ap, sym, drop, take, subst, []}
+use Rattle.std.proofs.Common.{◌≡◌, ◌+◌, ◌-◌, ◌∙◌, length, arith, ap, sym, drop, take, subst, [], rules}
 use Rattle.page_dir.specs.Pages.{joined, page_of}
 use Rattle.page_dir.specs.Splices.{spliced}
 use Rattle.page_dir.specs.Spread.{AreTidy, pages_in, start}
@@ -71,3 +71,6 @@ returns-then-is_empty-clause-joined g c =
     ∙ ap (λ k. spliced k c.args.n [] (joined ps)) c.part-i.ensures.place
     ∙ ap (spliced at c.args.n []) c.part-i.ensures.joined
     ∙ ap (λ new. spliced at c.args.n new (joined (pages_in c.args.spread.now))) (sym (nil_from_length c.args.new.now (eqb-true (length c.args.new.now) 0 (sym c.if-is_empty.ensures))))
+
+pub splice-requires-clause-fits : goal.splice-requires-clause-fits
+splice-requires-clause-fits g c = search rules

@@ -7,3 +7,6 @@ pub returns-then-len-width-clause-none : goal.returns-then-len-width-clause-none
 returns-then-len-width-clause-none c =
     let wide = c.width.ensures ∙ ap width_of c.space.ensures in
     too_long _ _ _ _ c.spells_one.ensures.address c.in_ok-n.ensures.some c.in_ok-len.ensures.some (search rules) (omega arith)
+
+pub returns-clause-none : goal.returns-clause-none
+returns-clause-none c = cc

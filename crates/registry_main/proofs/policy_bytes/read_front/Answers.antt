@@ -1,4 +1,4 @@
-use Rattle.std.proofs.Common.{arith, length-take}
+use Rattle.std.proofs.Common.{arith, length-take, rules}
 use Rattle.registry_main.proofs.Front.{front_ended, front_full}
 use Rattle.registry_main.proofs.policy_bytes.read_front.Goals.{else-pieces-test, then-pieces-test+in-Ok-eq0}
 use Rattle.registry_main.proofs.policy_bytes.read_front.Goals as goal
@@ -12,3 +12,6 @@ returns-clause-front g c = elim c.pieces-test.branch [
       (w.in-Ok-eq0.ensures.left.1 w.in-Ok-eq0.field-0-test (omega (arith, length-take w.min-most.result c.pieces.piece)))
       c.pieces.invariant.within
 ]
+
+pub returns-in-Err-clause-read_told : goal.returns-in-Err-clause-read_told
+returns-in-Err-clause-read_told g c = search rules

@@ -15,3 +15,6 @@ below (place ∷ places) h =
 
 pub returns-in-Ipv6-clause-bits : goal.returns-in-Ipv6-clause-bits
 returns-in-Ipv6-clause-bits c = All-from_recursion (λ (place : ℕ). place < 128) (address_places Ipv6) (below (address_places Ipv6) refl)
+
+pub returns-in-Ipv4-clause-places : goal.returns-in-Ipv4-clause-places
+returns-in-Ipv4-clause-places c = cc

@@ -1,4 +1,4 @@
-use Rattle.std.proofs.Common.{◌≡◌, ◌∙◌, refl, List, [], ◌∷◌, ◌++◌}
+use Rattle.std.proofs.Common.{◌≡◌, ◌∙◌, refl, List, [], ◌∷◌, ◌++◌, rules}
 use Rattle.door_face.specs.Doors.{LinkRecord}
 use Rattle.serve_run.proofs.Chains.{none_done, one_given, one_more, given_back}
 use Rattle.serve_run.proofs.along.serve_way.Goals as goal
@@ -33,3 +33,6 @@ loop-preserved g c =
       door = back.place.0 ∙ accepted.place.0 ∙ c.loop.invariant.door;
       port = back.place.1 ∙ accepted.place.1 ∙ c.loop.invariant.port;
     }
+
+pub returns-in-Err : goal.returns-in-Err
+returns-in-Err g c = search rules

@@ -1,4 +1,4 @@
-use Rattle.std.proofs.Common.{◌+◌, ◌<◌, ◌∙◌, List, length, sym, ap, subst}
+use Rattle.std.proofs.Common.{◌+◌, ◌<◌, ◌∙◌, List, length, sym, ap, subst, rules}
 use Rattle.reg_entry.specs.declared.object.Object.{Object}
 use Rattle.reg_entry.specs.declared.object.Act.{Act}
 use Rattle.reg_entry.specs.Entry.{PlainEntry}
@@ -32,3 +32,6 @@ returns-in_default c =
     ∙ only_pieces hs c.args.subs.now.ranges c.args.reverse.now.ranges c.entry.inside.day b a c.entry.inside.request d.not-AddHolder d.not-EditHolder d.not-SubAssign
     d.not-SubReturn d.not-SetReverse d.not-ClearReverse d.not-Return in
     c.note_pieces.ensures ∙ sym (ap (all_noted c.args.self.now) is)
+
+pub returns-in-EditHolder : goal.returns-in-EditHolder
+returns-in-EditHolder c = search rules

@@ -30,3 +30,6 @@ returns c =
     let table_is = c.in_ok-table.ensures in
     let fails = subst (λ (a : App). HasKind (fault_of a words) c.in-Err.error) table_is (c.in-Err.ensures.kinds (ap is_simple_and_free table_is ∙ table_is_free)) in
     sym (refused_is_none words (words_agree words plain) c.in-Err.error fails (λ memory. c.in_default.not-OutOfMemory (c.kind.ensures ∙ memory)))
+
+pub returns-in-OutOfMemory : goal.returns-in-OutOfMemory
+returns-in-OutOfMemory c = cc

@@ -1,4 +1,4 @@
-use Rattle.std.proofs.Common.{List, [], ◌∷◌, sym, ap, subst, ◌∙◌}
+use Rattle.std.proofs.Common.{List, [], ◌∷◌, sym, ap, subst, ◌∙◌, rules}
 use mathlib.Core.List.{IsPrefix}
 use Rattle.reg_entry.specs.Entry.{PlainEntry}
 use Rattle.entry_log.proofs.Fronts.{prefix_trans}
@@ -22,3 +22,6 @@ pub returns-clause-published : goal.returns-clause-published
 returns-clause-published g c =
     subst (λ (l : List PlainEntry). IsPrefix c.args.self.now.published l) (sym c.in-Err-enter.ensures.owed)
     (published_once c.args.self.now c.settle.new.self c.is_whole.ensures.published c.in-Ok.ensures.settled)
+
+pub returns-in-Refused-clause-reply : goal.returns-in-Refused-clause-reply
+returns-in-Refused-clause-reply g c = search rules

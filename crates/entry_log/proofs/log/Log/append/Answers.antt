@@ -1,4 +1,4 @@
-use Rattle.std.proofs.Common.{sym, ◌∙◌, ap}
+use Rattle.std.proofs.Common.{sym, ◌∙◌, ap, rules}
 use Rattle.entry_log.proofs.Appending.{appends_moves}
 use Rattle.entry_log.proofs.log.Log.append.Goals as goal
 
@@ -13,3 +13,6 @@ compare_exchange-found-requires c =
       offer.0,
       rw (ap (λ w. w.key) h, pen.1, offer.1, offer.3) (appends_moves c.args.seen.now.log c.args.append c.args.appends (sym c.requires.appends)),
     )
+
+pub returns-clause-log : goal.returns-clause-log
+returns-clause-log c = search rules

@@ -34,3 +34,6 @@ invariant_of-self c =
 
 pub returns-clause-distinct : goal.returns-clause-distinct
 returns-clause-distinct c = (invariant_of-self c).distinct
+
+pub returns-clause-number : goal.returns-clause-number
+returns-clause-number c = cc

@@ -17,3 +17,6 @@ pub put-requires : goal.put-requires
 put-requires c =
     loser_is_there c.args.self.now c.args.card.now c.in-Some.holder c.args.range.now (sym c.holder_of.ensures ∙ c.in-Some.is)
     (c.requires.held c.in-Some.holder c.args.range.now.space)
+
+pub returns-in-Some-clause-allocated : goal.returns-in-Some-clause-allocated
+returns-in-Some-clause-allocated c = search rules

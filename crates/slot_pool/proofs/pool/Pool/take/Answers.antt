@@ -54,3 +54,6 @@ returns-in-None-clause-taken g c =
 pub returns-in-None-clause-placed : goal.returns-in-None-clause-placed
 returns-in-None-clause-placed g c =
     placed c.args.self.now c.len-index.result c.args.value (returns-in-None-clause-vacant g c) _ (returns-in-None-clause-taken g c)
+
+pub returns-in-None-2-clause-vacant : goal.returns-in-None-2-clause-vacant
+returns-in-None-2-clause-vacant g c = cc
