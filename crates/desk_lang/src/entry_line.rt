@@ -14,6 +14,7 @@ ghost use Rattle.desk_lang.specs.Words.{next_value};
 
 use crate::line::{LINE_ROOM, Line, read_line};
 use crate::rest::{Form, Malformed, Rest};
+use crate::verb::is_text;
 use crate::writable::is_writable;
 use addr_text::{read_decimal, read_long_decimal, read_range};
 use arrayvec::ArrayVec;
@@ -52,17 +53,17 @@ fn read_card_day(word: &[u8]) -> Option<u32>
 fn read_status(word: &[u8]) -> Option<Option<Status>>
     ensures { result ≡ optional status_of_word word.now }
 {
-    let status = if word == b"-".as_slice() {
+    let status = if is_text(word, b"-") {
         return Some(None);
-    } else if word == b"available".as_slice() {
+    } else if is_text(word, b"available") {
         Status::Available
-    } else if word == b"reserved".as_slice() {
+    } else if is_text(word, b"reserved") {
         Status::Reserved
-    } else if word == b"quarantine".as_slice() {
+    } else if is_text(word, b"quarantine") {
         Status::Quarantine
-    } else if word == b"allocated".as_slice() {
+    } else if is_text(word, b"allocated") {
         Status::Allocated
-    } else if word == b"assigned".as_slice() {
+    } else if is_text(word, b"assigned") {
         Status::Assigned
     } else {
         return None;

@@ -1,5 +1,5 @@
 //! The first words of lines.
-ghost use Rattle.std.specs.Prelude.{◌≡◌};
+ghost use Rattle.std.specs.Prelude.{◌≡◌, bytes_eq};
 ghost use Rattle.desk_lang.specs.Grammar.{verb_of};
 
 /// The first word of a line that asks for something.
@@ -30,45 +30,53 @@ pub enum Verb {
 pub fn read_verb(word: &[u8]) -> Option<Verb>
     ensures { result ≡ verb_of word.now }
 {
-    if word == b"receive".as_slice() {
+    if is_text(word, b"receive") {
         Some(Verb::Receive)
-    } else if word == b"holder".as_slice() {
+    } else if is_text(word, b"holder") {
         Some(Verb::Holder)
-    } else if word == b"edit".as_slice() {
+    } else if is_text(word, b"edit") {
         Some(Verb::Edit)
-    } else if word == b"delegate".as_slice() {
+    } else if is_text(word, b"delegate") {
         Some(Verb::Delegate)
-    } else if word == b"reserve".as_slice() {
+    } else if is_text(word, b"reserve") {
         Some(Verb::Reserve)
-    } else if word == b"unreserve".as_slice() {
+    } else if is_text(word, b"unreserve") {
         Some(Verb::Unreserve)
-    } else if word == b"sub".as_slice() {
+    } else if is_text(word, b"sub") {
         Some(Verb::Sub)
-    } else if word == b"unsub".as_slice() {
+    } else if is_text(word, b"unsub") {
         Some(Verb::Unsub)
-    } else if word == b"return".as_slice() {
+    } else if is_text(word, b"return") {
         Some(Verb::Return)
-    } else if word == b"release".as_slice() {
+    } else if is_text(word, b"release") {
         Some(Verb::Release)
-    } else if word == b"split".as_slice() {
+    } else if is_text(word, b"split") {
         Some(Verb::Split)
-    } else if word == b"join".as_slice() {
+    } else if is_text(word, b"join") {
         Some(Verb::Join)
-    } else if word == b"transfer".as_slice() {
+    } else if is_text(word, b"transfer") {
         Some(Verb::Transfer)
-    } else if word == b"reverse".as_slice() {
+    } else if is_text(word, b"reverse") {
         Some(Verb::Reverse)
-    } else if word == b"unreverse".as_slice() {
+    } else if is_text(word, b"unreverse") {
         Some(Verb::Unreverse)
-    } else if word == b"show".as_slice() {
+    } else if is_text(word, b"show") {
         Some(Verb::Show)
-    } else if word == b"due".as_slice() {
+    } else if is_text(word, b"due") {
         Some(Verb::Due)
-    } else if word == b"day".as_slice() {
+    } else if is_text(word, b"day") {
         Some(Verb::Day)
-    } else if word == b"by".as_slice() {
+    } else if is_text(word, b"by") {
         Some(Verb::By)
     } else {
         None
     }
+}
+
+/// Whether the word is this text. A function of its own, since what each comparison lends is followed through all that come
+/// after it.
+pub(crate) fn is_text(word: &[u8], text: &[u8]) -> bool
+    ensures { result ≡ bytes_eq word.now text.now }
+{
+    word == text
 }

@@ -1,4 +1,5 @@
 use Rattle.std.proofs.Common.{◌≡◌, ◌+◌, ◌-◌, ◌/◌, length, arith, sym, subst, true, false}
+use Rattle.std.proofs.lemmas.Grind.{common_steps}
 use Rattle.page_dir.specs.Searching.{PassesAt, stands_before}
 use Rattle.page_dir.proofs.Halving.{halved_after, read_at}
 use Rattle.page_dir.proofs.locating.pairs_before.Goals as goal
@@ -37,3 +38,6 @@ loop-low-preserved g c =
       halved = halved_after c.args.steps.now c.loop-low.steps c.stands_before.new.steps (high - low) (middle - low) (length page)
           kept.counted c.stands_before.ensures.counted kept.halved (omega arith) (omega arith);
     }
+
+pub loop-low-init : goal.loop-low-init
+loop-low-init g c = grind (arith, common_steps)

@@ -1,4 +1,5 @@
 use Rattle.std.proofs.Common.{◌∙◌, ◌++◌, ◌+◌, ◌-◌, ◌≤◌, length, ap, sym, arith, refl, length-append}
+use Rattle.std.proofs.lemmas.Grind.{common_steps}
 use Rattle.page_dir.specs.Regions.{region}
 use Rattle.page_dir.specs.Splices.{spliced}
 use Rattle.page_dir.proofs.Regions.{behind, length-behind, region_elsewhere, region_written, shifted, spliced_more}
@@ -61,3 +62,6 @@ returns-clause-elsewhere g c = λ i k apart.
     ∙ region_elsewhere cells (new ++ back) (start + c.args.at) (length new + length back)
     (omega (arith, size, c.requires.there, c.requires.cells, c.requires.fits, c.requires.within)) (omega (arith, both)) start (omega arith)
     (omega (arith, size, c.requires.there, c.requires.fits, c.requires.within)) i k apart
+
+pub returns-clause-count : goal.returns-clause-count
+returns-clause-count g c = grind (arith, common_steps)

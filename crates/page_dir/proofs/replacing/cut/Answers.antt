@@ -1,4 +1,5 @@
 use Rattle.std.proofs.Common.{◌≡◌, ◌+◌, ◌-◌, ◌∙◌, [], length, arith, ap, drop, take, length-set, set}
+use Rattle.std.proofs.lemmas.Grind.{common_steps}
 use Rattle.std.specs.List.{remove}
 use Rattle.std.proofs.lemmas.List.{take-set-le}
 use Rattle.std.proofs.lemmas.List.Edits.{length-remove}
@@ -57,3 +58,18 @@ loop-left-preserved g c =
       spare = omega (arith, kept.spare, c.splice.ensures.spare);
       tidy = rw written (tidy-set ps (c.args.i - 1) (c.args.i + 2) c.args.i page (omega arith) (omega arith) kept.tidy);
     }
+
+pub page-here-requires : goal.page-here-requires
+page-here-requires g c = grind (arith, common_steps)
+
+pub remove-requires : goal.remove-requires
+remove-requires g c = grind (arith, common_steps)
+
+pub splice-requires-clause-page : goal.splice-requires-clause-page
+splice-requires-clause-page g c = grind (arith, common_steps)
+
+pub splice-requires-clause-there : goal.splice-requires-clause-there
+splice-requires-clause-there g c = grind (arith, common_steps)
+
+pub splice-requires-clause-fits : goal.splice-requires-clause-fits
+splice-requires-clause-fits g c = grind (arith, common_steps)

@@ -1,4 +1,5 @@
 use Rattle.std.proofs.Common.{◌-◌, ◌<◌, ◌∙◌, ◌++◌, length, arith, ap, drop, set, take}
+use Rattle.std.proofs.lemmas.Grind.{common_steps}
 use Rattle.std.proofs.lemmas.List.{take_rest}
 use Rattle.page_dir.specs.Pages.{page_of}
 use Rattle.page_dir.specs.Splices.{spliced}
@@ -25,3 +26,33 @@ returns-clause-tidy g c =
     let there : c.args.i < length (pages_in c.args.spread.now) = place_inside _ _ _ c.requires.place c.if-at-eq0.false in
     tidy-parted (pages_in c.args.spread.now) (pages_in c.splice.new.self) (pages_in c.add.new.self) c.args.i _ c.deref.result.now there c.requires.enough
     c.splice.ensures.pages c.add.ensures.pages
+
+pub page-page-requires : goal.page-page-requires
+page-page-requires g c = grind (arith, common_steps)
+
+pub returns-then-at-len-clause-there : goal.returns-then-at-len-clause-there
+returns-then-at-len-clause-there g c = grind (arith, common_steps)
+
+pub returns-then-at-len-clause-place : goal.returns-then-at-len-clause-place
+returns-then-at-len-clause-place g c = grind (arith, common_steps)
+
+pub returns-then-at-len-clause-tidy : goal.returns-then-at-len-clause-tidy
+returns-then-at-len-clause-tidy g c = grind (arith, common_steps)
+
+pub splice-requires-clause-page : goal.splice-requires-clause-page
+splice-requires-clause-page g c = grind (arith, common_steps)
+
+pub add-requires-clause-place : goal.add-requires-clause-place
+add-requires-clause-place g c = grind (arith, common_steps)
+
+pub returns-clause-there : goal.returns-clause-there
+returns-clause-there g c = grind (arith, common_steps)
+
+pub returns-clause-place : goal.returns-clause-place
+returns-clause-place g c = grind (arith, common_steps)
+
+pub returns-clause-count : goal.returns-clause-count
+returns-clause-count g c = grind (arith, common_steps)
+
+pub add-requires-clause-some : goal.add-requires-clause-some
+add-requires-clause-some g c = grind (arith, common_steps)

@@ -1,4 +1,5 @@
 use Rattle.std.proofs.Common.{◌≡◌, ◌+◌, ◌-◌, ◌∙◌, length, arith, ap, subst}
+use Rattle.std.proofs.lemmas.Grind.{common_steps}
 use Rattle.std.specs.List.{insert}
 use Rattle.page_dir.specs.Pages.{joined, page_of}
 use Rattle.page_dir.specs.Splices.{spliced}
@@ -32,3 +33,9 @@ returns-clause-tidy g c =
     let to : i + 2 + 1 ≡ i + 3 = omega arith in
     rw c.add.ensures.pages (subst (λ k. AreTidy (insert ps i c.args.new.now) (i - 1) k) to
     (tidy-inserted ps (i - 1) (i + 2) i c.args.new.now (omega arith) (omega arith) c.requires.there c.requires.tidy))
+
+pub returns-clause-joined : goal.returns-clause-joined
+returns-clause-joined g c = grind (arith, common_steps)
+
+pub returns-clause-count : goal.returns-clause-count
+returns-clause-count g c = grind (arith, common_steps)

@@ -1,4 +1,5 @@
 use Rattle.std.proofs.Common.{◌≡◌, ◌+◌, ◌-◌, ◌∙◌, length, arith, ap, sym, drop, take, subst, [], rules}
+use Rattle.std.proofs.lemmas.Grind.{common_steps}
 use Rattle.page_dir.specs.Pages.{joined, page_of}
 use Rattle.page_dir.specs.Splices.{spliced}
 use Rattle.page_dir.specs.Spread.{AreTidy, pages_in, start}
@@ -74,3 +75,21 @@ returns-then-is_empty-clause-joined g c =
 
 pub splice-requires-clause-fits : goal.splice-requires-clause-fits
 splice-requires-clause-fits g c = search rules
+
+pub splice-requires-clause-there : goal.splice-requires-clause-there
+splice-requires-clause-there g c = grind (arith, common_steps)
+
+pub returns-then-here-new-clause-count : goal.returns-then-here-new-clause-count
+returns-then-here-new-clause-count g c = grind (arith, common_steps)
+
+pub returns-then-is_empty-clause-enough : goal.returns-then-is_empty-clause-enough
+returns-then-is_empty-clause-enough g c = grind (arith, common_steps)
+
+pub put-requires-clause-some : goal.put-requires-clause-some
+put-requires-clause-some g c = grind (arith, common_steps)
+
+pub put-requires-clause-tidy : goal.put-requires-clause-tidy
+put-requires-clause-tidy g c = grind (arith, common_steps)
+
+pub returns-clause-enough : goal.returns-clause-enough
+returns-clause-enough g c = grind (arith, common_steps)

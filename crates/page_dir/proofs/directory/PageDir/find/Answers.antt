@@ -1,4 +1,5 @@
 use Rattle.std.proofs.Common.{◌≡◌, ◌+◌, ◌-◌, ◌<◌, ◌∙◌, suc, Some, length, get_or, arith, ap, sym}
+use Rattle.std.proofs.lemmas.Grind.{common_steps}
 use Rattle.std.specs.List.{prefix_len}
 use Rattle.std.proofs.lemmas.Option.{slice_get-get_or}
 use Rattle.page_dir.specs.Directory.{PlainDir}
@@ -40,3 +41,15 @@ returns-clause-found g c =
     ∙ slice_get-get_or (page_of ps page) (at - 1) c.index-page-at.result within
     ∙ ap (λ xs. Some (get_or xs (at - 1) c.index-page-at.result)) (sym c.page.ensures.items)
     ∙ ap (λ p. Some p) (sym c.index-page-at.is))
+
+pub page-requires : goal.page-requires
+page-requires g c = grind (arith, common_steps)
+
+pub offset_bounds-page-at : goal.offset_bounds-page-at
+offset_bounds-page-at g c = grind (arith, common_steps)
+
+pub bounds-page-at : goal.bounds-page-at
+bounds-page-at g c = grind (arith, common_steps)
+
+pub returns-clause-cost : goal.returns-clause-cost
+returns-clause-cost g c = grind (arith, common_steps)

@@ -1,4 +1,5 @@
 use Rattle.std.proofs.Common.{◌≡◌, ◌+◌, ◌≤◌, ◌∙◌, length, arith, ap, sym, subst}
+use Rattle.std.proofs.lemmas.Grind.{common_steps}
 use Rattle.page_dir.specs.Directory.{PlainDir}
 use Rattle.page_dir.specs.Pages.{joined}
 use Rattle.page_dir.specs.Sorted.{Rises, rank}
@@ -39,3 +40,15 @@ invariant_of-self g c =
       reserved = omega (arith, c.replace.ensures.count, kept.reserved);
       carry = c.replace.ensures.carry;
     }
+
+pub replace-requires-clause-there : goal.replace-requires-clause-there
+replace-requires-clause-there g c = grind (arith, common_steps)
+
+pub replace-requires-clause-enough : goal.replace-requires-clause-enough
+replace-requires-clause-enough g c = grind (arith, common_steps)
+
+pub overflow_sub-self : goal.overflow_sub-self
+overflow_sub-self g c = grind (arith, common_steps)
+
+pub returns-clause-room : goal.returns-clause-room
+returns-clause-room g c = grind (arith, common_steps)

@@ -1,4 +1,5 @@
 use Rattle.std.proofs.Common.{◌≡◌, ◌+◌, ◌-◌, ◌∙◌, length, length-take-le, get_or, take, drop, arith, ap, sym, subst}
+use Rattle.std.proofs.lemmas.Grind.{common_steps}
 use Rattle.page_dir.specs.Sorted.{Rises, rank}
 use Rattle.page_dir.specs.Splices.{spliced}
 use Rattle.page_dir.proofs.Rising.{next_part, next_rank, part_rises}
@@ -59,3 +60,9 @@ loop-done-preserved g c =
       room = c.replace_few-in-loop-done.ensures.room ∙ c.loop-done.invariant.room;
       within = omega arith;
     }
+
+pub replace_few-requires-clause-room : goal.replace_few-requires-clause-room
+replace_few-requires-clause-room g c = grind (arith, common_steps)
+
+pub returns-clause-pairs : goal.returns-clause-pairs
+returns-clause-pairs g c = grind (arith, common_steps)

@@ -1,4 +1,5 @@
 use Rattle.std.proofs.Common.{◌≡◌, ◌≤◌, ◌∙◌, Some, length, get_or, set, arith, ap, sym, subst}
+use Rattle.std.proofs.lemmas.Grind.{common_steps}
 use Rattle.std.specs.List.{insert}
 use Rattle.page_dir.specs.Pages.{pages_at}
 use Rattle.page_dir.specs.Spread.{BeginWith, pages_in}
@@ -48,3 +49,6 @@ returns-clause-pages g c =
     ∙ ap (λ p. pages_at p (insert order c.args.i slot)) c.take-slot.ensures.taken
     ∙ pages_added pool slot new c.take-slot.ensures.vacant c.args.i c.self.invariant
     ∙ ap (λ pages. insert pages c.args.i new) seen
+
+pub insert-requires-clause-place : goal.insert-requires-clause-place
+insert-requires-clause-place g c = grind (arith, common_steps)

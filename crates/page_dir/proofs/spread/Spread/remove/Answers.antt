@@ -1,4 +1,5 @@
 use Rattle.std.proofs.Common.{◌≡◌, ◌<◌, ◌∙◌, length, arith, ap, sym, set, subst, None}
+use Rattle.std.proofs.lemmas.Grind.{common_steps}
 use Rattle.std.specs.List.{remove}
 use Rattle.slot_pool.specs.Cells.{held}
 use Rattle.page_dir.specs.Pages.{pages_at}
@@ -45,3 +46,6 @@ returns-clause-pages g c =
     ∙ ap (pages_at (set pool slot None)) c.remove-slot.ensures.items
     ∙ pages_removed pool slot lives.0 live c.args.i slot c.self.invariant i (sym c.remove-slot.ensures.value)
     ∙ ap (λ pages. remove pages c.args.i) seen
+
+pub remove-slot-requires : goal.remove-slot-requires
+remove-slot-requires g c = grind (arith, common_steps)

@@ -1,4 +1,5 @@
 use Rattle.std.proofs.Common.{◌≡◌, ◌<◌, ◌∙◌, length, arith, ap, get_or, refl, sym, set, subst, Option, Some, IfSome, List}
+use Rattle.std.proofs.lemmas.Grind.{common_steps}
 use Rattle.std.specs.Option.{IsSome}
 use Rattle.slot_pool.specs.Cells.{held, spare}
 use Rattle.page_dir.specs.Pages.{or_empty, page_of, pages_at}
@@ -120,3 +121,41 @@ returns-clause-spare g c =
     ap spare c.splice.ensures
     ∙ spare_written pool slot lives.0 (spliced c.args.at c.args.n c.args.new.now (or_empty (held pool slot))) live
     ∙ ap (λ s. s.spare) c.self.view_is
+
+pub splice-requires-clause-there : goal.splice-requires-clause-there
+splice-requires-clause-there g c =
+    let pool = c.self.inside.pool in
+    let order = c.self.inside.order.items in
+    let slot = c.index.result.now in
+    let seen : pages_at pool order ≡ pages_in c.args.self.now = ap pages_in c.self.view_is in
+    let len = length-pages_at pool order in
+    let i : c.args.i < length order = omega (arith, c.requires.page, ap length seen, len) in
+    let lives = slot_lives pool order c.self.inside.firsts.items _ _ c.args.i slot c.self.invariant i in
+    let live = ap (held pool) c.index.ensures ∙ lives.1 in
+    let page = page_at pool order c.args.i slot lives.0 i c.index.ensures live in
+    let old : length (page_of (pages_in c.args.self.now) c.args.i) ≡ length (or_empty (held pool slot)) =
+    ap (λ pages. length (page_of pages c.args.i)) (sym seen) ∙ ap length page ∙ ap (λ o. length (or_empty o)) (sym live) in
+    omega (arith, old, c.requires.there)
+
+pub splice-requires-clause-fits : goal.splice-requires-clause-fits
+splice-requires-clause-fits g c =
+    let pool = c.self.inside.pool in
+    let order = c.self.inside.order.items in
+    let slot = c.index.result.now in
+    let seen : pages_at pool order ≡ pages_in c.args.self.now = ap pages_in c.self.view_is in
+    let len = length-pages_at pool order in
+    let i : c.args.i < length order = omega (arith, c.requires.page, ap length seen, len) in
+    let lives = slot_lives pool order c.self.inside.firsts.items _ _ c.args.i slot c.self.invariant i in
+    let live = ap (held pool) c.index.ensures ∙ lives.1 in
+    let page = page_at pool order c.args.i slot lives.0 i c.index.ensures live in
+    let old : length (page_of (pages_in c.args.self.now) c.args.i) ≡ length (or_empty (held pool slot)) =
+    ap (λ pages. length (page_of pages c.args.i)) (sym seen) ∙ ap length page ∙ ap (λ o. length (or_empty o)) (sym live) in
+    omega (arith, old, c.requires.fits)
+
+pub splice-requires-clause-live : goal.splice-requires-clause-live
+splice-requires-clause-live g c = grind (arith, common_steps)
+
+pub index-requires : goal.index-requires
+index-requires g c =
+    let seen : pages_at c.self.inside.pool c.self.inside.order.items ≡ pages_in c.args.self.now = ap pages_in c.self.view_is in
+    omega (arith, c.requires.page, ap length seen, length-pages_at c.self.inside.pool c.self.inside.order.items)
