@@ -1,4 +1,5 @@
-use Rattle.std.proofs.Common.{◌≡◌, ◌∙◌, length, rules, sym}
+use Rattle.std.proofs.Common.{◌≡◌, ◌∙◌, length, rules, sym, arith}
+use Rattle.std.proofs.lemmas.Grind.{common_steps}
 use Rattle.std.specs.Vec.Iter.{into_iter_items}
 use Rattle.serve_run.proofs.Taking.{all_done, came_back_as, enough_lent, first_is_told, none_done, one_done, rest_are_told, well_done}
 use Rattle.serve_run.proofs.back.take_back.Goals as goal
@@ -47,3 +48,21 @@ returns-clause-served g c =
 pub returns-clause-told : goal.returns-clause-told
 returns-clause-told g c is =
     (all_done _ _ _ _ _ _ c.loop-outcome.invariant.so_far (sym c.loop-outcome.outcome-iterator.rest.ok.0 ∙ c.in-None.ensures.steps.0)).well c.if-tally-2.false
+
+pub loop-outcome-smaller : goal.loop-outcome-smaller
+loop-outcome-smaller g c = grind (arith, common_steps)
+
+pub returns-then-tally-clause-told : goal.returns-then-tally-clause-told
+returns-then-tally-clause-told g c = grind (arith, common_steps)
+
+pub returns-then-tally-clause-never : goal.returns-then-tally-clause-never
+returns-then-tally-clause-never g c = grind (arith, common_steps)
+
+pub returns-then-tally-2-clause-told : goal.returns-then-tally-2-clause-told
+returns-then-tally-2-clause-told g c = grind (arith, common_steps)
+
+pub returns-then-tally-2-clause-never : goal.returns-then-tally-2-clause-never
+returns-then-tally-2-clause-never g c = grind (arith, common_steps)
+
+pub returns-clause-never : goal.returns-clause-never
+returns-clause-never g c = grind (arith, common_steps)
