@@ -2,7 +2,7 @@ use Rattle.std.proofs.Common.{◌∙◌, Some, ap, inr, map, refl, sym}
 use Rattle.std.specs.String.{string_bytes}
 use Rattle.registry_main.proofs.Commands.{first_or_last, first_or_second, is_command}
 use Rattle.registry_main.proofs.Front.{if_said_maps}
-use Rattle.registry_main.proofs.run.run.Goals as goal
+use Rattle.registry_main.proofs.program.run.Goals as goal
 
 pub do_serve-requires-clause-workers : goal.do_serve-requires-clause-workers
 do_serve-requires-clause-workers g c κs lives = ((c.commands_have_one_list_of_words.ensures (map string_bytes c.args.words.now) _).0

@@ -1,32 +1,14 @@
-//! The register's program: `registry_main batch` answers a script; `serve` serves HTTP and the change stream from a register
-//! that begins empty; `stats` and `zones` write the statistics file and the reverse zones of the register that a script leaves;
-//! `mirror` writes the objects of a mirror that is fed the script; `load` writes the sums of a load.
+//! The register's program: it hands `registry_main::run` the words behind its name, the policy's file, the standard streams, the
+//! clock, and the doors over sockets, and ends with what that answers.
 #![tactic(auto)]
 
-mod answer;
-mod answer_line;
-mod apply;
-mod batch;
-mod command;
-mod due_lines;
-mod exit;
-mod held_replies;
-mod laws;
-mod line_buffer;
-mod load;
-mod mirror;
-mod policy_bytes;
 mod policy_file;
-mod publish;
-mod run;
-mod serve;
-mod session;
 
 use command_words::Command;
 use door_face::{SocketGate, ThreadSpawner};
-use exit::Exit;
 use link_face::{InSource, OutSink, SystemDay};
 use policy_file::PolicyFile;
+use registry_main::Exit;
 use std::env::VarError;
 use std::io::IsTerminal;
 use std::process::ExitCode;
@@ -78,7 +60,7 @@ fn run_program<R: AllocGlobal + Threads + Wait + Sync>(rt: &HostRuntime, threads
     let clock = SystemDay::new(rt);
     let mut gate = gate_of(rt);
     let mut spawner = ThreadSpawner::new();
-    run::run(
+    registry_main::run(
         threads,
         &words,
         &mut policy,
