@@ -1,11 +1,10 @@
-//! Whole connections, byte for byte: what is written to each for what comes, in one piece and in single bytes.
+//! Connections over links of which calls fail, and over a register that has a fault. Messages of all kinds, and connections that
+//! end in each way, are rows of the built program's.
 ghost use Rattle.std.specs.Prelude.{◌≡◌};
 
-mod connections;
 mod desks;
 
 use board::{Answer, Board, Lens};
-use connections::{EACH_KIND, ENDS, NARROWEST};
 use hall::{Backend, Fault, serve};
 use link_face::{FailingLink, FailingSink, FailingSource, FixedDay, Joined, MemSink, MemSource};
 use policy_table::Policy;
@@ -42,6 +41,32 @@ const DISK_FAILED: &[u8] = b"HTTP/1.1 500 Internal Server Error\r\n\
     \r\n\
     {\"description\":[\"the disk failed\"],\"errorCode\":500,\"rdapConformance\":[\"rdap_level_0\"],\"title\":\"Internal Server Error\"}";
 
+/// Two requests, and what is answered to each by a register without entries.
+const TWO_REQUESTS: &str = "POST /desk HTTP/1.1\r\n\
+    Host: r\r\n\
+    Authorization: Bearer k-local-0001\r\n\
+    Content-Length: 20\r\n\
+    \r\n\
+    receive 192.0.2.0/24\x1f\
+    HTTP/1.1 200 OK\r\n\
+    Content-Type: text/plain\r\n\
+    Content-Length: 29\r\n\
+    Register-Serial: 1\r\n\
+    \r\n\
+    ok 1 192.0.2.0 - 192.0.2.255\n\x1e\
+    POST /desk HTTP/1.1\r\n\
+    Host: r\r\n\
+    Authorization: Bearer k-local-0001\r\n\
+    Content-Length: 51\r\n\
+    \r\n\
+    holder ORG-A lir DE \"Alpha Net\" \"noc@alpha.example\"\x1f\
+    HTTP/1.1 200 OK\r\n\
+    Content-Type: text/plain\r\n\
+    Content-Length: 7\r\n\
+    Register-Serial: 2\r\n\
+    \r\n\
+    ok 2 -\n";
+
 const ROOMS: Rooms = Rooms {
     pieces: 16,
     holders: 4,
@@ -74,16 +99,6 @@ fn joined(alloc: Global, table: &str) -> Result<Talk, AllocError> {
     Ok(Talk { input, output })
 }
 
-/// Where a connection is tried: over a register of its own, with so many bytes in each piece, and with calls of the link that
-/// fail.
-#[derive(Clone, Copy)]
-struct Trial<'a> {
-    input: &'a [u8],
-    piece: usize,
-    reads: &'a [u64],
-    writes: &'a [u64],
-}
-
 /// How a connection ended, and what was written.
 #[derive(Drop)]
 struct Outcome {
@@ -110,100 +125,33 @@ fn end_of(
     Ok(serve(alloc, link, framer, &mut board, policy, &clock))
 }
 
-fn served(alloc: Global, trial: &Trial<'_>) -> Result<Option<Outcome>, AllocError> {
-    if trial.piece == 0 {
-        return Ok(None);
-    }
+/// Serves a connection that comes in pieces of a hundred bytes, over a link of which these calls fail.
+fn served(
+    alloc: Global,
+    input: &[u8],
+    reads: &[u64],
+    writes: &[u64],
+) -> Result<Option<Outcome>, AllocError> {
     let mut framer = Framer::new(alloc)?;
     let Ok(policy) = Policy::read(alloc, POLICY) else {
         return Ok(None);
     };
     let mut link: FailingLink<'_> = Joined {
-        source: FailingSource::new(MemSource::in_pieces(trial.input, trial.piece), trial.reads),
-        sink: FailingSink::new(MemSink::new(alloc), trial.writes, 10),
+        source: FailingSource::new(MemSource::in_pieces(input, 100), reads),
+        sink: FailingSink::new(MemSink::new(alloc), writes, 10),
     };
     let end = end_of(alloc, &mut link, &mut framer, &policy)?;
     written_of(alloc, link.sink.bytes(), end).map(Some)
 }
 
-/// Whether the connection is closed with just this written, in pieces of so many bytes.
-fn is_closed_with(
-    alloc: Global,
-    input: &[u8],
-    output: &[u8],
-    piece: usize,
-) -> Result<bool, AllocError> {
-    let trial = Trial {
-        input,
-        piece,
-        reads: &[],
-        writes: &[],
-    };
-    let Some(outcome) = served(alloc, &trial)? else {
-        return Ok(false);
-    };
-    Ok(outcome.end == ConnEnd::Closed && outcome.written.as_slice() == output)
-}
-
-#[test]
-fn each_kind_of_message_is_answered(rt: HostRuntime) -> Result<(), Fail> {
-    let talk = joined(rt.alloc(), EACH_KIND)?;
-    for piece in [1, 7, usize::MAX] {
-        assert!(rt;
-            is_closed_with(rt.alloc(), &talk.input, &talk.output, piece)?,
-            "in pieces of {piece}"
-        );
-    }
-    Ok(())
-}
-
-#[test]
-fn narrowest_registration_is_found(rt: HostRuntime) -> Result<(), Fail> {
-    let talk = joined(rt.alloc(), NARROWEST)?;
-    for piece in [1, usize::MAX] {
-        assert!(rt;
-            is_closed_with(rt.alloc(), &talk.input, &talk.output, piece)?,
-            "in pieces of {piece}"
-        );
-    }
-    Ok(())
-}
-
-/// The first connection that doesn't end as the table says.
-fn first_other_end(alloc: Global) -> Result<Option<&'static str>, AllocError> {
-    for row in ENDS.split('\x1e') {
-        let Some((input, output)) = row.split_once('\x1f') else {
-            return Ok(Some(row));
-        };
-        for piece in [1, usize::MAX] {
-            if !is_closed_with(alloc, input.as_bytes(), output.as_bytes(), piece)? {
-                return Ok(Some(input));
-            }
-        }
-    }
-    Ok(None)
-}
-
-#[test]
-fn each_end_is_told(rt: HostRuntime) -> Result<(), Fail> {
-    assert_eq!(rt; first_other_end(rt.alloc())?, None);
-    Ok(())
-}
-
-/// How many bytes are written before this call of the link fails, in pieces of a hundred bytes.
+/// How the connection ends where these calls of the link fail, and how many bytes of the replies are written before.
 fn written_before(
     alloc: Global,
     reads: &[u64],
     writes: &[u64],
 ) -> Result<Option<(ConnEnd, usize)>, AllocError> {
-    let talk = joined(alloc, NARROWEST)?;
-    let trial = Trial {
-        input: &talk.input,
-        piece: 100,
-        reads,
-        writes,
-    };
-    let Some(outcome) = served(alloc, &trial)? else {
+    let talk = joined(alloc, TWO_REQUESTS)?;
+    let Some(outcome) = served(alloc, &talk.input, reads, writes)? else {
         return Ok(None);
     };
     if !talk.output.starts_with(&outcome.written) {
@@ -215,6 +163,10 @@ fn written_before(
 #[test]
 fn failed_link_has_a_front_of_the_replies(rt: HostRuntime) -> Result<(), Fail> {
     let alloc = rt.alloc();
+    assert_eq!(rt;
+        written_before(alloc, &[], &[])?,
+        Some((ConnEnd::Closed, 205))
+    );
     assert_eq!(rt;
         written_before(alloc, &[0], &[])?,
         Some((ConnEnd::ReadFault, 0))

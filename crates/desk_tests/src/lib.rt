@@ -1,4 +1,4 @@
-//! Tests of the desk that many share, of the conversations with it, and of its serving.
+//! Tests of what is published of a board, of the desk that many share, of conversations with it that go wrong, and of its serving.
 #![tactic(auto)]
 
 #[cfg(test)]
@@ -7,3 +7,5 @@ mod desk_book_tests;
 mod hall_tests;
 #[cfg(test)]
 mod serve_run_tests;
+#[cfg(test)]
+mod snapshot_pub_tests;

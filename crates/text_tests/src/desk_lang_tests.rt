@@ -108,6 +108,7 @@ release 192.0.2.0/26|release 192.0.2.0-192.0.2.63|
 unreverse 2001:DB8::/32|unreverse 2001:db8::-2001:db8:ffff:ffff:ffff:ffff:ffff:ffff|
 split 192.0.2.32|split 192.0.2.32|
 join 192.0.2.32|join 192.0.2.32|
+join 2001:DB8:1::|join 2001:db8:1::|
 holder ORG-A lir DE "Alpha  Net" "noc@alpha.example"|holder ORG-A lir DE "Alpha  Net" "noc@alpha.example"|
 delegate ipv4 /0 allocated ORG-A|delegate ipv4 /0 allocated ORG-A|
 delegate ipv4 /32 assigned ORG-A|delegate ipv4 /32 assigned ORG-A|
@@ -122,8 +123,13 @@ reverse 192.0.2.0/26 ns1.alpha.example|reverse 192.0.2.0-192.0.2.63 ns1.alpha.ex
 reverse 192.0.2.0/26 ns1.alpha.example a.b a.b ns1.alpha.example |reverse 192.0.2.0-192.0.2.63 ns1.alpha.example a.b a.b ns1.alpha.example|
 "#;
 
-// A text, and whether it is an entry's; those that aren't differ from one in a place.
+// A text, and whether it is an entry's: then it is what is written of the entry that it spells. Those that aren't differ from
+// one in a place.
 const ENTRIES: &str = r#"
+1 19700102 local 192.0.2.0-192.0.2.63 available - - - receive 192.0.2.0-192.0.2.63|entry|
+2 20240301 local - - - - - holder ORG-A lir DE "Alpha Net" "noc@alpha.example"|entry|
+3 20240301 local 192.0.2.0-192.0.2.63 allocated 0 20240301 - delegate ipv4 /26 allocated ORG-A|entry|
+18446744073709551615 99991231 local AS64496-AS64511 quarantine - 20240301 20250301 return AS64496-AS64511 ORG-A|entry|
 18446744073709551615 20240301 local 192.0.2.0-192.0.2.63 quarantine 4294967295 - 20250301 return 192.0.2.0-192.0.2.63 ORG-A|entry|
 0 19700102 local - - - - - edit B2 enduser FR "Beta  2" "x"|entry|
 3 20240301 local 192.0.2.0-192.0.2.63 available - - - receive 192.0.2.0-192.0.2.63|entry|

@@ -1,11 +1,11 @@
-//! Tests of the texts that are read and answered.
+//! Tests of the texts that are read and written, the change stream's among them.
 #![tactic(auto)]
 
 #[cfg(test)]
-mod command_words_tests;
-#[cfg(test)]
 mod desk_lang_tests;
 #[cfg(test)]
-mod desk_text_tests;
+mod mirror_core_tests;
 #[cfg(test)]
-mod rdap_json_tests;
+mod nrtm_stream_tests;
+#[cfg(test)]
+mod rpsl_text_tests;

@@ -2,7 +2,7 @@ use Rattle.std.proofs.Common.{[], List, refl, sym, subst, ap, ◌∙◌}
 use Rattle.reg_entry.specs.Entry.{PlainEntry}
 use Rattle.reg_entry.specs.Operations.{PlainBoard}
 use Rattle.op_feed.specs.ReachedBoard.{IsBoardOf}
-use Rattle.board_tests.proofs.snapshot_pub_tests.goes_well.Goals as goal
+use Rattle.desk_tests.proofs.snapshot_pub_tests.goes_well.Goals as goal
 
 pub invariant_of-desk : goal.invariant_of-desk
 invariant_of-desk g c =
