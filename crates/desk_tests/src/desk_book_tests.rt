@@ -1,6 +1,7 @@
 //! Requests submitted with two passes, and two threads that submit while two look.
-ghost use Rattle.std.specs.Prelude.{◌≡◌};
+ghost use Rattle.std.specs.Prelude.{◌≡◌, All, IfSome};
 ghost use Rattle.desk_book.specs.Book.{first_pass};
+ghost use Rattle.snapshot_pub.specs.Pass.{PlainPass};
 
 use board::{Answer, Board, Body, Lens, Media};
 use desk_book::{Book, Desk, Naming};
@@ -262,6 +263,17 @@ fn are_answered_at_desk<N: Naming, R: Wait + Drop, W: Wait>(
     well
 }
 
+/// Two passes from the end of a list.
+fn two_of(passes: &mut Vec<Pass>) -> Option<(Pass, Pass)>
+    ensures { (first : PlainPass) → All (λ p. p ≡ first) passes.old.items
+        → IfSome result (λ two. (two.0 ≡ first) × (two.1 ≡ first)) × All (λ p. p ≡ first) passes.new.items }
+{
+    match (passes.pop(), passes.pop()) {
+        (Some(one), Some(two)) => Some((one, two)),
+        _ => None,
+    }
+}
+
 /// The same over a new book.
 fn are_answered_over_new_book<R: Wait + Drop, W: Wait>(
     rt: &W,
@@ -272,11 +284,11 @@ fn are_answered_over_new_book<R: Wait + Drop, W: Wait>(
     let Ok((book, mut passes)) = Book::open(rt, alloc, ROOMS, 2) else {
         return false;
     };
-    match (passes.pop(), passes.pop()) {
-        (Some(one), Some(two)) => {
+    match two_of(&mut passes) {
+        Some((one, two)) => {
             are_answered_at_desk::<Brand, R, W>(rt, own, alloc, asked, book, one, two)
         }
-        _ => {
+        None => {
             book.close(rt);
             false
         }
@@ -387,15 +399,9 @@ fn are_shared_over_new_book<R: Wait + Drop + Send, W: Threads + Wait + Sync>(
     let Ok((book, mut passes)) = Book::open(rt, alloc, ROOMS, 4) else {
         return None;
     };
-    match (passes.pop(), passes.pop(), passes.pop(), passes.pop()) {
-        (Some(one), Some(two), Some(three), Some(four)) => are_shared_at_desk::<Brand, R, W>(
-            rt,
-            own,
-            alloc,
-            asked,
-            book,
-            (one, two),
-            (three, four),
+    match (two_of(&mut passes), two_of(&mut passes)) {
+        (Some(submitting), Some(looking)) => are_shared_at_desk::<Brand, R, W>(
+            rt, own, alloc, asked, book, submitting, looking,
         ),
         _ => {
             book.close(rt);
