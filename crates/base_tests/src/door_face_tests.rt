@@ -5,9 +5,6 @@ use std::io::{Read, Write};
 use std::net::{Shutdown, SocketAddr, TcpStream};
 use std::test::Fail;
 
-mod doors;
-mod spawners;
-
 const TEXT: &[u8] = b"ten bytes.";
 
 // Sends back what one read gives.

@@ -1,16 +1,13 @@
-ghost use Rattle.std.specs.Prelude.{◌≡◌, ◌⊎◌, IfSome, OnOk, OnErr, ◌++◌};
+ghost use Rattle.std.specs.Prelude.{◌⊎◌, IfSome, OnOk, OnErr};
 ghost use Rattle.std.specs.Io.KnownBytes.{Appends, IsAtEnd};
 ghost use Rattle.link_face.specs.Faults.{HasRisen};
 
 use link_face::{
-    Clock, Failed, FailingSink, FailingSource, FixedDay, InSource, MemSink, MemSource, OutSink,
-    Sink, Source, SystemDay,
+    Clock, Failed, FixedDay, InSource, MemSink, MemSource, OutSink, Sink, Source, SystemDay,
 };
 use std::alloc::Global;
 use std::time::Duration;
 use std::{io, rt};
-
-mod links;
 
 // The loop that a caller writes: the traits' clauses alone say what it copies, and why it fails.
 fn copy<S: Source, T: Sink>(source: &mut S, sink: &mut T) -> Result<(), Failed>
@@ -30,105 +27,7 @@ fn copy<S: Source, T: Sink>(source: &mut S, sink: &mut T) -> Result<(), Failed>
     }
 }
 
-// From memory to memory only memory can fail.
-fn copy_bytes(source: &mut MemSource<'_>, sink: &mut MemSink) -> Result<(), Failed>
-    ensures ok { OnOk result (sink.new.written ≡ sink.old.written ++ source.old.left) }
-    ensures err { OnErr result (HasRisen sink.old.faults sink.new.faults) }
-{
-    copy(source, sink)
-}
-
 const TEXT: &[u8] = b"0123456789";
-
-#[test]
-fn copies_in_any_pieces(rt: HostRuntime) {
-    for piece in [1, 2, 3, 4, 5, 9, 10, 11, usize::MAX] {
-        let mut source = MemSource::in_pieces(TEXT, piece);
-        let mut sink = MemSink::new(rt.alloc());
-        assert_eq!(rt;
-            copy_bytes(&mut source, &mut sink),
-            Ok(()),
-            "in pieces of {piece}"
-        );
-        assert_eq!(rt; sink.bytes(), TEXT, "in pieces of {piece}");
-        assert_eq!(rt; source.left(), b"".as_slice(), "in pieces of {piece}");
-        assert_eq!(rt; sink.faults(), 0);
-    }
-}
-
-// Whether the copy stops at the failed call, where this was copied, and the next try goes on there.
-fn stops_and_goes_on(source: &mut FailingSource<'_>, sink: &mut MemSink, copied: &str) -> bool {
-    copy(source, sink) == Err(Failed)
-        && sink.bytes() == copied.as_bytes()
-        && (source.faults(), sink.faults()) == (1, 0)
-        && copy(source, sink) == Ok(())
-        && sink.bytes() == TEXT
-        && source.left() == b"".as_slice()
-}
-
-fn fails_at_read(alloc: Global, call: u64, copied: &str) -> bool {
-    let calls = [call];
-    let mut source = FailingSource::new(MemSource::in_pieces(TEXT, 3), &calls);
-    let mut sink = MemSink::new(alloc);
-    stops_and_goes_on(&mut source, &mut sink, copied)
-}
-
-#[test]
-fn each_read_fails_in_turn(rt: HostRuntime) {
-    // Four pieces of three bytes or less, and the read that tells the end.
-    let copied = ["", "012", "012345", "012345678", "0123456789"];
-    for call in 0..copied.len() {
-        assert!(rt;
-            fails_at_read(rt.alloc(), call as u64, copied[call]),
-            "at read {call}"
-        );
-    }
-}
-
-// Whether the copy ends so, with this written and so many faults.
-fn is_copied(
-    sink: &mut FailingSink<'_>,
-    ends: Result<(), Failed>,
-    written: &[u8],
-    faults: u64,
-) -> bool {
-    copy(&mut MemSource::new(TEXT), sink) == ends
-        && sink.bytes() == written
-        && sink.faults() == faults
-}
-
-fn fails_at_write(alloc: Global, call: u64, passes: usize, written: &str) -> bool {
-    let calls = [call];
-    let mut sink = FailingSink::new(MemSink::new(alloc), &calls, passes);
-    is_copied(&mut sink, Err(Failed), written.as_bytes(), 1)
-}
-
-fn fails_behind_its_writes(alloc: Global) -> bool {
-    let mut sink = FailingSink::new(MemSink::new(alloc), &[3], 0);
-    is_copied(&mut sink, Ok(()), TEXT, 0)
-}
-
-#[test]
-fn each_write_fails_in_turn(rt: HostRuntime) {
-    // Writes of four, four and two bytes.
-    let table = [
-        (0, 0, ""),
-        (0, 3, "012"),
-        (0, 9, "0123"),
-        (1, 0, "0123"),
-        (1, 1, "01234"),
-        (2, 0, "01234567"),
-        (2, 1, "012345678"),
-        (2, 2, "0123456789"),
-    ];
-    for (call, passes, written) in table {
-        assert!(rt;
-            fails_at_write(rt.alloc(), call, passes, written),
-            "at write {call}, {passes} bytes"
-        );
-    }
-    assert!(rt; fails_behind_its_writes(rt.alloc()));
-}
 
 // A reader of one byte, behind a signal and before a fault. Behind its end it would give bytes again.
 #[derive(Drop)]

@@ -46,9 +46,9 @@ impl<K: Ord + Copy, V: Copy> Listed<K, V> {
 fn begins_from<K: Ord, V>(pairs: &[(K, V)], from: &K) -> bool
     ensures { OnTrue result (IfSome (slice_get pairs.now 0) (λ p. is_le (K.cmp from.now p.0) ≡ true)) }
 {
-    match pairs {
-        [] => true,
-        [first, ..] => from.cmp(&first.0).is_le(),
+    match pairs.first() {
+        None => true,
+        Some(first) => from.cmp(&first.0).is_le(),
     }
 }
 
@@ -125,6 +125,16 @@ impl Numbers {
     }
 }
 
+/// How many pairs stand below a number.
+fn below(plain: &[(u64, u64)], number: u64) -> usize {
+    for i in 0..plain.len() {
+        if plain[i].0 >= number {
+            return i;
+        }
+    }
+    plain.len()
+}
+
 /// The same splice of a plain list, where the same holds of it.
 fn splice_plain(
     alloc: Global,
@@ -134,7 +144,7 @@ fn splice_plain(
     new: &[(u64, u64)],
     room: usize,
 ) -> Result<bool, AllocError> {
-    let at = plain.iter().filter(|p| p.0 < from).count();
+    let at = below(plain, from);
     let end = at.saturating_add(n as usize);
     let tail = match plain.as_slice().get(end..) {
         None => return Ok(false),
@@ -194,7 +204,7 @@ fn counts_alike<K: Key>(
     from: u64,
     until: u64,
 ) -> bool {
-    let between = plain.iter().filter(|p| from <= p.0 && p.0 < until).count();
+    let between = below(plain, until).saturating_sub(below(plain, from));
     dir.count_between(&K::of(from), &K::of(until)) as usize == between
 }
 
@@ -263,56 +273,35 @@ fn random_splices(rt: HostRuntime) -> Result<(), Fail> {
 }
 
 /// From which number on, how many pairs go, how many come with the numbers from there on, whether that may be, and how many
-/// pages and pairs there are then. Room for 200; a dash where more than one count of pages is right.
-const SPLICES: &str = "\
-1000 0 64 yes 1 64
-1064 0 1 yes 2 65
-1064 1 0 yes 1 64
-999 0 1 yes 2 65
-999 1 0 yes 1 64
-1000 65 0 no 1 64
-1010 0 1 no 1 64
-1010 0 0 yes 1 64
-1010 54 54 yes 1 64
-1000 64 0 yes 0 0
-1000 1 0 no 0 0
-1000 0 0 yes 0 0
-0 0 200 yes - 200
-500 0 1 no - 200
-100 1 1 yes - 200
-3 150 100 yes - 150
-5 1 52 no - 150
-0 150 65 yes 2 65
-0 1 0 yes 1 64
-0 65 0 no 1 64
-1 64 0 yes 0 0
-7 0 1 yes 1 1
-7 1 0 yes 0 0
-";
+/// pages and pairs there are then; none where more than one count of pages is right.
+type Row = (u64, u32, u64, bool, Option<usize>, u32);
 
-/// One row of the splices.
-#[derive(Drop)]
-struct Row {
-    from: u64,
-    n: u32,
-    come: u64,
-    fits: bool,
-    pages: Option<usize>,
-    len: u32,
-}
-
-fn row_of(text: &str) -> Result<Row, Fail> {
-    let mut words = text.split_whitespace();
-    let mut next = || words.next().ok_or("a word too few");
-    Ok(Row {
-        from: next()?.parse()?,
-        n: next()?.parse()?,
-        come: next()?.parse()?,
-        fits: next()? == "yes",
-        pages: next()?.parse().ok(),
-        len: next()?.parse()?,
-    })
-}
+/// The rows of a directory with room for 200.
+const SPLICES: [Row; 23] = [
+    (1000, 0, 64, true, Some(1), 64),
+    (1064, 0, 1, true, Some(2), 65),
+    (1064, 1, 0, true, Some(1), 64),
+    (999, 0, 1, true, Some(2), 65),
+    (999, 1, 0, true, Some(1), 64),
+    (1000, 65, 0, false, Some(1), 64),
+    (1010, 0, 1, false, Some(1), 64),
+    (1010, 0, 0, true, Some(1), 64),
+    (1010, 54, 54, true, Some(1), 64),
+    (1000, 64, 0, true, Some(0), 0),
+    (1000, 1, 0, false, Some(0), 0),
+    (1000, 0, 0, true, Some(0), 0),
+    (0, 0, 200, true, None, 200),
+    (500, 0, 1, false, None, 200),
+    (100, 1, 1, true, None, 200),
+    (3, 150, 100, true, None, 150),
+    (5, 1, 52, false, None, 150),
+    (0, 150, 65, true, Some(2), 65),
+    (0, 1, 0, true, Some(1), 64),
+    (0, 65, 0, false, Some(1), 64),
+    (1, 64, 0, true, Some(0), 0),
+    (7, 0, 1, true, Some(1), 1),
+    (7, 1, 0, true, Some(0), 0),
+];
 
 /// So many pairs with the numbers from there on.
 fn pairs_from(alloc: Global, from: u64, count: u64) -> Result<Vec<(u128, u64)>, AllocError> {
@@ -323,35 +312,37 @@ fn pairs_from(alloc: Global, from: u64, count: u64) -> Result<Vec<(u128, u64)>, 
     Ok(pairs)
 }
 
-/// Whether it went as the row says.
+/// Whether it goes as the row says.
 fn goes_as_told(alloc: Global, dir: &mut Listed<u128, u64>, row: &Row) -> Result<bool, AllocError> {
-    let new = pairs_from(alloc, row.from, row.come)?;
-    let fits = dir.splice(&u128::from(row.from), row.n, &new);
-    let pages = dir.dir.order().len();
-    Ok(fits == row.fits && row.pages.unwrap_or(pages) == pages && dir.dir.len() == row.len)
+    let (from, n, come, fits, pages, len) = *row;
+    let new = pairs_from(alloc, from, come)?;
+    let did = dir.splice(&u128::from(from), n, &new);
+    let order = dir.dir.order().len();
+    Ok(did == fits && pages.unwrap_or(order) == order && dir.dir.len() == len)
 }
 
-/// All rows, and then the directory is empty.
-fn go_as_told(alloc: Global, dir: &mut Listed<u128, u64>) -> Result<(), Fail> {
-    for text in SPLICES.lines() {
-        if !goes_as_told(alloc, dir, &row_of(text)?)? {
-            return Err(text.into());
+/// Whether all rows go so, and then the directory is as it was made: seven pages are enough for 200 pairs, and two are spare.
+fn go_as_told(alloc: Global, dir: &mut Listed<u128, u64>) -> Result<bool, AllocError> {
+    for row in SPLICES.iter() {
+        if !goes_as_told(alloc, dir, row)? {
+            return Ok(false);
         }
     }
-    // Seven pages are enough for 200 pairs, and two are spare.
-    if dir.dir.room() == 200 && dir.dir.is_empty() && dir.dir.pages().spare() == 9 {
-        Ok(())
-    } else {
-        Err("the directory isn't as it was made".into())
-    }
+    Ok(dir.dir.room() == 200 && dir.dir.is_empty() && dir.dir.pages().spare() == 9)
+}
+
+/// Whether all rows go so in a directory of their own.
+fn all_go(alloc: Global) -> Result<bool, AllocError> {
+    let mut dir = Listed {
+        dir: PageDir::with_room(alloc, 200)?,
+    };
+    go_as_told(alloc, &mut dir)
 }
 
 #[test]
 fn splices_at_the_ends(rt: HostRuntime) -> Result<(), Fail> {
-    let mut dir = Listed {
-        dir: PageDir::with_room(rt.alloc(), 200)?,
-    };
-    go_as_told(rt.alloc(), &mut dir)
+    assert!(rt; all_go(rt.alloc())?);
+    Ok(())
 }
 
 /// A number that is seen as itself, as the types of the layers above are.

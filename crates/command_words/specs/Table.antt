@@ -22,6 +22,18 @@ text_rule name = record (new_rule name) { required = true }
 abbrev pub row : Text → List Text → Shape
 row word texts = record (new_shape word) { rules = map text_rule texts }
 
+-- the row of the doors
+abbrev pub serve_row : Shape
+serve_row = row (codes "serve") (codes "HTTP" ∷ codes "LINE" ∷ codes "WORKERS" ∷ [])
+
+-- the row of a load
+abbrev pub load_row : Shape
+load_row = row (codes "load") (codes "SEED" ∷ codes "N" ∷ [])
+
+-- a command with no rows below it
+abbrev pub only : Shape → App
+only top = record { top = top; subs = [] }
+
 abbrev pub table : App
 table = record {
   top = record (new_shape (codes "registry_main")) {
@@ -32,11 +44,11 @@ table = record {
     subcommand_required = true;
   };
   subs = row (codes "batch") []
-      ∷ row (codes "serve") (codes "HTTP" ∷ codes "LINE" ∷ codes "WORKERS" ∷ [])
+      ∷ serve_row
       ∷ row (codes "stats") []
       ∷ row (codes "zones") []
       ∷ row (codes "mirror") []
-      ∷ row (codes "load") (codes "SEED" ∷ codes "N" ∷ [])
+      ∷ load_row
       ∷ [];
 }
 

@@ -1,4 +1,4 @@
-//! Tests of the texts that are read and written, the change stream's among them.
+//! Tests of the texts that are read and written, messages and the change stream among them.
 #![tactic(auto)]
 
 #[cfg(test)]
@@ -9,3 +9,5 @@ mod mirror_core_tests;
 mod nrtm_stream_tests;
 #[cfg(test)]
 mod rpsl_text_tests;
+#[cfg(test)]
+mod wire_http_tests;

@@ -1,9 +1,12 @@
 //! What a window keeps.
+ghost use Rattle.std.specs.Prelude.{◌+◌, ◌<◌, ◌^◌};
+
 use num_range::{Range, Space};
 use op_feed::OpWindow;
 use reg_entry::{
     Act, Card, Cc, Handle, Holder, Host, Kind, Object, Op, Piece, Servers, Status, Text,
 };
+use std::alloc::{AllocError, Global};
 use std::test::Fail;
 
 /// A holder, a sub, a block and a cut.
@@ -75,10 +78,11 @@ fn op(serial: u64, act: Act, object: Object) -> Op {
     }
 }
 
-#[test]
-fn the_last_operations_are_kept(rt: HostRuntime) -> Result<(), Fail> {
-    let mut window = OpWindow::with_window(rt.alloc(), 4)?;
-    let (opening, none) = (window.serials(), window.at(0).is_none());
+/// Whether of five operations the last four are kept.
+fn keeps_the_last(window: &mut OpWindow) -> bool
+    requires { window.old.serial + 6 < 2 ^ 64 }
+{
+    let begins = window.serials() == (1, 0) && window.at(0).is_none();
     window.note_org(Act::Add, &holder(), 4);
     window.note_sub(
         Act::Add,
@@ -104,6 +108,16 @@ fn the_last_operations_are_kept(rt: HostRuntime) -> Result<(), Fail> {
         Some(op(5, Act::Add, org(7))),
         None,
     ];
-    assert!(rt; opening == (1, 0) && none && serials == (2, 5) && kept == wanted);
+    begins && serials == (2, 5) && kept == wanted
+}
+
+fn has_the_last(alloc: Global) -> Result<bool, AllocError> {
+    let mut window = OpWindow::with_window(alloc, 4)?;
+    Ok(keeps_the_last(&mut window))
+}
+
+#[test]
+fn the_last_operations_are_kept(rt: HostRuntime) -> Result<(), Fail> {
+    assert!(rt; has_the_last(rt.alloc())?);
     Ok(())
 }
