@@ -9,6 +9,8 @@ use std::alloc::Global;
 use std::time::Duration;
 use std::{io, rt};
 
+mod links;
+
 // The loop that a caller writes: the traits' clauses alone say what it copies, and why it fails.
 fn copy<S: Source, T: Sink>(source: &mut S, sink: &mut T) -> Result<(), Failed>
     ensures ok { OnOk result (IfSome (S.left source.old)
