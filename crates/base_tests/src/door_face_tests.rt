@@ -53,18 +53,30 @@ fn gives_back_one_of_two(
     Ok(is_closed && is_echoed(way, &mut second, other)?)
 }
 
+// Whether the way's connections are such, one after the other and two at once.
+fn speaks(
+    rt: &HostRuntime,
+    way: &mut SocketWay<&HostRuntime>,
+    address: SocketAddr,
+) -> Result<bool, Fail> {
+    let (mut client, link) = connect(rt, way, address)?;
+    Ok(is_echoed(way, &mut client, link)? && gives_back_one_of_two(rt, way, address)?)
+}
+
+// Whether another port at a door that listens is a fault, which is the gate's first.
+fn has_one_port(gate: &mut SocketGate<&HostRuntime>) -> bool {
+    gate.faults() == 0 && gate.way(Door::Http, 1).is_err() && gate.faults() == 1
+}
+
 // Whether a door's ways have one listener, and another port there is a fault.
 fn listens_once(rt: &HostRuntime, gate: &mut SocketGate<&HostRuntime>) -> Result<bool, Fail> {
     let mut way = gate.way(Door::Http, 0).map_err(|_| "no way")?;
     let address = gate.address(Door::Http).ok_or("no address")?;
-    let (mut client, link) = connect(rt, &mut way, address)?;
-    let echoed = is_echoed(&mut way, &mut client, link)?;
-    let both = gives_back_one_of_two(rt, &mut way, address)?;
+    let spoke = speaks(rt, &mut way, address)?;
     let second = gate.way(Door::Http, 0).map_err(|_| "no second way")?;
     gate.done(way);
     gate.done(second);
-    let faults = gate.faults();
-    Ok(echoed && both && faults == 0 && gate.way(Door::Http, 1).is_err() && gate.faults() == 1)
+    Ok(spoke && has_one_port(gate))
 }
 
 fn listens_nowhere(rt: &HostRuntime) -> bool {

@@ -135,6 +135,16 @@ fn below(plain: &[(u64, u64)], number: u64) -> usize {
     plain.len()
 }
 
+/// Whether new pairs fit between so many and the rest.
+fn fits(at: usize, new: &[(u64, u64)], rest: &[(u64, u64)], room: usize) -> bool {
+    if let (Some(last), Some(next)) = (new.last(), rest.first()) {
+        if last.0 >= next.0 {
+            return false;
+        }
+    }
+    rest.len().saturating_add(at).saturating_add(new.len()) <= room
+}
+
 /// The same splice of a plain list, where the same holds of it.
 fn splice_plain(
     alloc: Global,
@@ -145,22 +155,16 @@ fn splice_plain(
     room: usize,
 ) -> Result<bool, AllocError> {
     let at = below(plain, from);
-    let end = at.saturating_add(n as usize);
-    let tail = match plain.as_slice().get(end..) {
-        None => return Ok(false),
-        Some(rest) => rest.to_vec(alloc)?,
+    let Some(rest) = plain.as_slice().get(at.saturating_add(n as usize)..) else {
+        return Ok(false);
     };
-    if let (Some(last), Some(next)) = (new.last(), tail.first()) {
-        if last.0 >= next.0 {
-            return Ok(false);
-        }
-    }
-    if tail.len().saturating_add(at).saturating_add(new.len()) > room {
+    if !fits(at, new, rest, room) {
         return Ok(false);
     }
+    let rest = rest.to_vec(alloc)?;
     plain.truncate(at);
     plain.extend_from_slice(new)?;
-    plain.extend_from_slice(&tail)?;
+    plain.extend_from_slice(&rest)?;
     Ok(true)
 }
 

@@ -87,11 +87,14 @@ fn made_one(book: &mut PieceBook, at: Number) -> Option<Touched> {
     Some(book.join(at))
 }
 
-fn ipv4_piece(first: u128, last: u128, status: Status) -> Option<Piece> {
-    Some(Piece {
-        range: Range::new(Space::Ipv4, first, last)?,
+fn ipv4_piece(first: u128, last: u128, status: Status) -> Piece
+    requires ordered { first ≤ last }
+    requires within { last < 2 ^ 32 }
+{
+    Piece {
+        range: Range::between(Space::Ipv4, first, last),
         card: card_of(status),
-    })
+    }
 }
 
 /// The first available piece, as a caller's loop finds it.
@@ -239,9 +242,9 @@ fn finds_both_ends(book: &mut PieceBook) -> bool {
 
 /// Whether a piece is parted and made one again where that may be, and what went and came is told.
 fn parts_and_joins(book: &mut PieceBook) -> Option<bool> {
-    let whole = ipv4_piece(0xc000_0200, 0xc000_027f, Status::Allocated)?;
-    let low = ipv4_piece(0xc000_0200, 0xc000_023f, Status::Allocated)?;
-    let high = ipv4_piece(0xc000_0240, 0xc000_027f, Status::Allocated)?;
+    let whole = ipv4_piece(0xc000_0200, 0xc000_027f, Status::Allocated);
+    let low = ipv4_piece(0xc000_0200, 0xc000_023f, Status::Allocated);
+    let high = ipv4_piece(0xc000_0240, 0xc000_027f, Status::Allocated);
     let behind = Range::between(Space::Ipv4, 0xc000_0280, 0xc000_02ff);
     laid(book, &whole.range, Status::Allocated);
     laid(book, &behind, Status::Available);
