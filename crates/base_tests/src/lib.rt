@@ -1,5 +1,5 @@
-//! Tests of what else a board and its replies stand on: numbers, ranges and covers, entries and what draws, seeks and notes
-//! them; links, a gate over sockets, the framing of messages, and readers beside a writer.
+//! Tests of what else a board and its replies stand on: numbers, ranges and covers, paths of lookups, entries and what draws,
+//! seeks and notes them; links, a gate over sockets, and readers beside a writer.
 #![tactic(auto)]
 
 #[cfg(test)]
