@@ -1,4 +1,5 @@
 use Rattle.std.proofs.Common.{Bool, length, arith, sym, false}
+use Rattle.std.proofs.lemmas.Grind.{moves, pieces, elements}
 use Rattle.page_dir.specs.Searching.{FailsAt, stands_before}
 use Rattle.page_dir.proofs.Halving.{cost_of_all, costs_join, not_both, read_at}
 use Rattle.page_dir.proofs.locating.rows_by_halving.Goals as goal
@@ -32,3 +33,15 @@ pub returns-else-stands_before-clause-cost : goal.returns-else-stands_before-cla
 returns-else-stands_before-clause-cost g c =
     cost_of_all c.args.steps.now c.loop-window.steps c.stands_before.new.steps (length c.args.rows.now) c.loop-window.window.left c.loop-window.invariant.counted
     c.stands_before.ensures.counted c.loop-window-test.false c.loop-window.invariant.cost
+
+pub returns-then-is_empty-clause-cost : goal.returns-then-is_empty-clause-cost
+returns-then-is_empty-clause-cost g c = grind (arith, moves)
+
+pub loop-window-init : goal.loop-window-init
+loop-window-init g c = search (pieces, arith)
+
+pub loop-window-smaller : goal.loop-window-smaller
+loop-window-smaller g c = grind (arith, moves)
+
+pub returns-then-stands_before-clause-turn : goal.returns-then-stands_before-clause-turn
+returns-then-stands_before-clause-turn g c = grind (arith, elements)

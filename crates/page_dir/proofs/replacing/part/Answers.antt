@@ -1,5 +1,5 @@
 use Rattle.std.proofs.Common.{◌-◌, ◌<◌, ◌∙◌, ◌++◌, length, arith, ap, drop, set, take}
-use Rattle.std.proofs.lemmas.Grind.{common_steps}
+use Rattle.std.proofs.lemmas.Grind.{common_steps, moves, elements}
 use Rattle.std.proofs.lemmas.List.{take_rest}
 use Rattle.page_dir.specs.Pages.{page_of}
 use Rattle.page_dir.specs.Splices.{spliced}
@@ -56,3 +56,24 @@ returns-clause-count g c = grind (arith, common_steps)
 
 pub add-requires-clause-some : goal.add-requires-clause-some
 add-requires-clause-some g c = grind (arith, common_steps)
+
+pub offset_bounds-page-at : goal.offset_bounds-page-at
+offset_bounds-page-at g c = grind (arith, moves)
+
+pub slice_bounds-append-count : goal.slice_bounds-append-count
+slice_bounds-append-count g c = grind (arith, elements)
+
+pub slice_bounds-append-start : goal.slice_bounds-append-start
+slice_bounds-append-start g c = grind (arith, moves)
+
+pub overflow_sub-len : goal.overflow_sub-len
+overflow_sub-len g c = grind (arith, moves)
+
+pub splice-requires-clause-there : goal.splice-requires-clause-there
+splice-requires-clause-there g c = grind (arith, moves)
+
+pub splice-requires-clause-fits : goal.splice-requires-clause-fits
+splice-requires-clause-fits g c = grind (arith, moves)
+
+pub add-requires-clause-few : goal.add-requires-clause-few
+add-requires-clause-few g c = grind (arith, elements)

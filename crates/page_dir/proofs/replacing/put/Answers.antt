@@ -1,5 +1,5 @@
 use Rattle.std.proofs.Common.{◌≡◌, ◌+◌, ◌-◌, ◌∙◌, length, arith, ap, subst}
-use Rattle.std.proofs.lemmas.Grind.{common_steps}
+use Rattle.std.proofs.lemmas.Grind.{common_steps, moves, elements}
 use Rattle.std.specs.List.{insert}
 use Rattle.page_dir.specs.Pages.{joined, page_of}
 use Rattle.page_dir.specs.Splices.{spliced}
@@ -39,3 +39,12 @@ returns-clause-joined g c = grind (arith, common_steps)
 
 pub returns-clause-count : goal.returns-clause-count
 returns-clause-count g c = grind (arith, common_steps)
+
+pub splice-requires-clause-there : goal.splice-requires-clause-there
+splice-requires-clause-there g c = grind (arith, moves)
+
+pub splice-requires-clause-fits : goal.splice-requires-clause-fits
+splice-requires-clause-fits g c = grind (arith, moves)
+
+pub returns-then-before-new-le64-clause-count : goal.returns-then-before-new-le64-clause-count
+returns-then-before-new-le64-clause-count g c = grind (arith, elements)

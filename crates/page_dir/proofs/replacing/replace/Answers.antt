@@ -1,5 +1,5 @@
 use Rattle.std.proofs.Common.{◌≡◌, ◌+◌, ◌-◌, ◌∙◌, length, arith, ap, sym, drop, take, subst, [], rules}
-use Rattle.std.proofs.lemmas.Grind.{common_steps}
+use Rattle.std.proofs.lemmas.Grind.{common_steps, moves, elements}
 use Rattle.page_dir.specs.Pages.{joined, page_of}
 use Rattle.page_dir.specs.Splices.{spliced}
 use Rattle.page_dir.specs.Spread.{AreTidy, pages_in, start}
@@ -93,3 +93,18 @@ put-requires-clause-tidy g c = grind (arith, common_steps)
 
 pub returns-clause-enough : goal.returns-clause-enough
 returns-clause-enough g c = grind (arith, common_steps)
+
+pub returns-then-n-new-clause-count : goal.returns-then-n-new-clause-count
+returns-then-n-new-clause-count g c = grind (arith, moves)
+
+pub returns-then-here-new-clause-enough : goal.returns-then-here-new-clause-enough
+returns-then-here-new-clause-enough g c = grind (arith, moves)
+
+pub part-i-requires-clause-enough : goal.part-i-requires-clause-enough
+part-i-requires-clause-enough g c = grind (arith, moves)
+
+pub cut-requires-clause-tidy : goal.cut-requires-clause-tidy
+cut-requires-clause-tidy g c = grind (arith, elements)
+
+pub tidy-requires-then-is_empty-clause-tidy : goal.tidy-requires-then-is_empty-clause-tidy
+tidy-requires-then-is_empty-clause-tidy g c = grind (arith, moves)

@@ -1,4 +1,5 @@
 use Rattle.std.proofs.Common.{◌≡◌, ◌<◌, length, None, arith, rules, sym, ◌∙◌}
+use Rattle.std.proofs.lemmas.Grind.{common_steps}
 use Rattle.toml.specs.View.{view}
 use Rattle.policy_table.specs.Section.{string_of}
 use Rattle.policy_table.proofs.Hosts.{texts, text_in, count_of, chosen, not_chosen, placed, refused}
@@ -26,3 +27,9 @@ loop-place-preserved c =
     let room : i < length c.loop-place.hosts = omega (arith, c.loop-place.invariant.2, within, c.if-values-gt-SERVER_ROOM.false) in
     let (one, is) = chosen _ (string_of (view v)) host (sym c.host_of-in-loop-place.ensures ∙ c.in_ok-hosts-2.was) in
     placed c.loop-place.hosts (texts vs) i (string_of (view v)) host is c.loop-place.invariant.2 room inside (text_in vs i v within c.index-values-place.is) one c.loop-place.invariant.0 c.loop-place.invariant.1
+
+pub returns-in_err-hosts : goal.returns-in_err-hosts
+returns-in_err-hosts c = grind (arith, common_steps)
+
+pub returns : goal.returns
+returns c = grind (arith, common_steps)

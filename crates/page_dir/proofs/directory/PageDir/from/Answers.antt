@@ -1,6 +1,7 @@
 use Rattle.std.proofs.Common.{◌<◌, ◌∙◌, Some, length, get_or, arith, ap, sym}
 use Rattle.std.specs.List.{slice_get}
 use Rattle.std.proofs.lemmas.Option.{slice_get-get_or}
+use Rattle.std.proofs.lemmas.Grind.{elements, common_steps}
 use Rattle.page_dir.specs.Directory.{PlainDir}
 use Rattle.page_dir.specs.Pages.{joined, page_of}
 use Rattle.page_dir.specs.Sorted.{rank}
@@ -21,3 +22,12 @@ returns g c =
     ∙ slice_get-get_or (page_of ps page) at c.index-page-at.result within
     ∙ ap (λ xs. Some (get_or xs at c.index-page-at.result)) (sym c.page.ensures.items)
     ∙ ap (λ p. Some p) (sym c.index-page-at.is))
+
+pub returns-then-page-len : goal.returns-then-page-len
+returns-then-page-len g c = grind (arith, elements)
+
+pub offset_bounds-page-at : goal.offset_bounds-page-at
+offset_bounds-page-at g c = grind (arith, elements)
+
+pub bounds-page-at : goal.bounds-page-at
+bounds-page-at g c = grind (arith, common_steps)

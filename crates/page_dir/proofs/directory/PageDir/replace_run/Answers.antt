@@ -1,5 +1,5 @@
 use Rattle.std.proofs.Common.{◌≡◌, ◌+◌, ◌-◌, ◌∙◌, length, length-take-le, get_or, take, drop, arith, ap, sym, subst}
-use Rattle.std.proofs.lemmas.Grind.{common_steps}
+use Rattle.std.proofs.lemmas.Grind.{common_steps, elements}
 use Rattle.page_dir.specs.Sorted.{Rises, rank}
 use Rattle.page_dir.specs.Splices.{spliced}
 use Rattle.page_dir.proofs.Rising.{next_part, next_rank, part_rises}
@@ -66,3 +66,7 @@ replace_few-requires-clause-room g c = grind (arith, common_steps)
 
 pub returns-clause-pairs : goal.returns-clause-pairs
 returns-clause-pairs g c = grind (arith, common_steps)
+
+pub replace_few-requires-in-loop-done-clause-room :
+    goal.replace_few-requires-in-loop-done-clause-room
+replace_few-requires-in-loop-done-clause-room g c = grind (arith, elements)

@@ -1,5 +1,5 @@
 use Rattle.std.proofs.Common.{◌≡◌, ◌≤◌, ◌∙◌, Some, length, get_or, set, arith, ap, sym, subst}
-use Rattle.std.proofs.lemmas.Grind.{common_steps}
+use Rattle.std.proofs.lemmas.Grind.{common_steps, moves}
 use Rattle.std.specs.List.{insert}
 use Rattle.page_dir.specs.Pages.{pages_at}
 use Rattle.page_dir.specs.Spread.{BeginWith, pages_in}
@@ -52,3 +52,9 @@ returns-clause-pages g c =
 
 pub insert-requires-clause-place : goal.insert-requires-clause-place
 insert-requires-clause-place g c = grind (arith, common_steps)
+
+pub take-slot-requires-clause-spare : goal.take-slot-requires-clause-spare
+take-slot-requires-clause-spare g c = grind (arith, moves)
+
+pub returns-clause-spare : goal.returns-clause-spare
+returns-clause-spare g c = grind (arith, moves)

@@ -1,4 +1,5 @@
-use Rattle.std.proofs.Common.{◌≡◌, ◌++◌, ◌∷◌, [], List, take, length, drop, sym, ap, subst, ◌∙◌}
+use Rattle.std.proofs.Common.{◌≡◌, ◌++◌, ◌∷◌, [], List, take, length, drop, sym, ap, subst, ◌∙◌, arith}
+use Rattle.std.proofs.lemmas.Grind.{common_steps, moves}
 use Rattle.left_right.specs.Sides.{view}
 use Rattle.reg_entry.specs.Entry.{PlainEntry}
 use Rattle.reg_entry.specs.Register.{register_after}
@@ -26,3 +27,15 @@ invariant_of-self c =
       subst (λ (f : PlainFront). IsBehind c.self.inside.log f tip) (sym c.again.ensures) (behind_itself c.self.inside.log tip (behind.log_is ∙ sym book)),
       rw (c.in-Ok.ensures.desk, c.in-Ok.ensures.pending, c.again-2.ensures) more,
     )
+
+pub invariant_of-self-in-Err-1 : goal.invariant_of-self-in-Err-1
+invariant_of-self-in-Err-1 c = grind (arith, common_steps)
+
+pub returns-in-Ok-clause-put : goal.returns-in-Ok-clause-put
+returns-in-Ok-clause-put c = grind (arith, moves)
+
+pub returns-in-Ok-clause-published : goal.returns-in-Ok-clause-published
+returns-in-Ok-clause-published c = grind (arith, moves)
+
+pub returns-in-Err-clause-put : goal.returns-in-Err-clause-put
+returns-in-Err-clause-put c = grind (arith, moves)
