@@ -1,4 +1,5 @@
-use Rattle.std.proofs.Common.{IsTrue}
+use Rattle.std.proofs.Common.{IsTrue, arith}
+use Rattle.std.proofs.lemmas.Grind.{moves, common_steps}
 use Rattle.addr_text.proofs.Parsed.{no_pair_first, no_pair_last, no_pair_order}
 use Rattle.addr_text.proofs.range.read_first_to_last.Goals as goal
 
@@ -17,3 +18,12 @@ returns-then-not-in_order-clause-none c =
     let parts = c.in_ok-first.ensures in
     no_pair_order _ _ _ parts.parts parts.first _ _ c.in_ok-first-2.ensures.some c.in_ok-last.ensures.some
     λ both. let ordered : IsTrue c.in_order.result = c.in_order.ensures.1 both in absurd (cc)
+
+pub returns-in_err-first-clause-none : goal.returns-in_err-first-clause-none
+returns-in_err-first-clause-none c = grind (arith, moves)
+
+pub between-requires-clause-ordered : goal.between-requires-clause-ordered
+between-requires-clause-ordered c = grind (arith, common_steps)
+
+pub returns-clause-some : goal.returns-clause-some
+returns-clause-some c = grind (arith, common_steps)

@@ -1,5 +1,6 @@
 use Rattle.std.proofs.Common.{◌≡◌, ℕ, ◌+◌, ◌<◌, ◌≤◌, ◌^◌, None, Option, IsSome, true, false, refl, sym, ◌∙◌, ap, subst, arith, length}
 use Rattle.std.proofs.lemmas.Bool.{both_ways}
+use Rattle.std.proofs.lemmas.Grind.{common_steps}
 use Rattle.num_range.specs.Range.{PlainRange}
 use Rattle.reg_entry.specs.declared.card.Card.{Card}
 use Rattle.reg_entry.specs.declared.holder.Holder.{Holder}
@@ -254,3 +255,6 @@ returns-in_default-card-clause-holdings c =
     (λ holder space. c.next_entries_change_use.ensures.same r e holder space whole next bare
     (sym (same_subs e.request e.day rest.holders.holders c.args.subs.now.ranges c.in_default.not-SubAssign c.in_default.not-SubReturn)))
     (h.holdings.count ∙ same_length e.request e.day rest.holders.holders c.in_default.not-AddHolder) (λ holder space. refl) (λ holder space. refl) (λ holder space. refl))
+
+pub add-requires : goal.add-requires
+add-requires c = grind (arith, common_steps)

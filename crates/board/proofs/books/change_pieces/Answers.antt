@@ -1,4 +1,5 @@
-use Rattle.std.proofs.Common.{◌≡◌, None, refl, sym, ◌∙◌, ap, subst}
+use Rattle.std.proofs.Common.{◌≡◌, None, refl, sym, ◌∙◌, ap, subst, arith}
+use Rattle.std.proofs.lemmas.Grind.{elements}
 use Rattle.reg_entry.specs.declared.request.Request.TheVariants.{Split}
 use Rattle.reg_entry.specs.Entry.{PlainEntry}
 use Rattle.reg_entry.specs.Next.{IsNextEntry}
@@ -74,3 +75,6 @@ returns-in-None c =
       touched = untouched_by c.args.pieces.now.partition c.untouched-in-None.result.before.items c.untouched-in-None.result.after.items
           c.untouched-in-None.ensures.before c.untouched-in-None.ensures.after;
     }
+
+pub returns-in-None-cover : goal.returns-in-None-cover
+returns-in-None-cover c = grind (arith, elements)

@@ -1,4 +1,5 @@
-use Rattle.std.proofs.Common.{◌∙◌, subst}
+use Rattle.std.proofs.Common.{◌∙◌, subst, arith}
+use Rattle.std.proofs.lemmas.Grind.{common_steps}
 use Rattle.reg_entry.specs.declared.rooms.Rooms.{Rooms}
 use Rattle.hall.specs.Turn.{Terms, terms}
 use Rattle.hall.specs.Answer.{AnswersGiven}
@@ -77,3 +78,18 @@ messages-preserved g c = record {
         ),
       );
 }
+
+pub messages-init : goal.messages-init
+messages-init g c = grind (arith, common_steps)
+
+pub returns-in-Bad-clause-served : goal.returns-in-Bad-clause-served
+returns-in-Bad-clause-served g c = grind (arith, common_steps)
+
+pub returns-in-End-clause-served : goal.returns-in-End-clause-served
+returns-in-End-clause-served g c = grind (arith, common_steps)
+
+pub answer_message-requires-clause-lengths : goal.answer_message-requires-clause-lengths
+answer_message-requires-clause-lengths g c = grind (arith, common_steps)
+
+pub returns-then-branch-clause-cause : goal.returns-then-branch-clause-cause
+returns-then-branch-clause-cause g c = grind (arith, common_steps)

@@ -1,4 +1,5 @@
-use Rattle.std.proofs.Common.{◌≡◌, ◌∙◌, ℕ, List, [], Option, true, false, Ok, refl, sym, ap, ap₂, subst, append-nil, true≢false}
+use Rattle.std.proofs.Common.{◌≡◌, ◌∙◌, ℕ, List, [], Option, true, false, Ok, refl, sym, ap, ap₂, subst, append-nil, true≢false, arith}
+use Rattle.std.proofs.lemmas.Grind.{common_steps}
 use Rattle.reg_entry.specs.declared.rooms.Rooms.{Rooms}
 use Rattle.wire_http.specs.declared.message.ConnEnd.TheVariants.{WriteFault}
 use Rattle.wire_http.specs.Messages.{StandsBehind}
@@ -246,3 +247,18 @@ returns-in-Ok-answer_messages-clause-conversation g c before stands =
           (λ more. absurd (true≢false (c.answer_messages-2.ensures.more (c.in-Ok-answer_messages.is ∙ ap Ok more)).1))
           c.close-in-Ok-answer_messages.ensures.closed),
     )
+
+pub returns-in-Err-clause-told : goal.returns-in-Err-clause-told
+returns-in-Err-clause-told g c = grind (arith, common_steps)
+
+pub returns-then-not-wants_more-clause-told : goal.returns-then-not-wants_more-clause-told
+returns-then-not-wants_more-clause-told g c = grind (arith, common_steps)
+
+pub returns-in-Err-receive-clause-told : goal.returns-in-Err-receive-clause-told
+returns-in-Err-receive-clause-told g c = grind (arith, common_steps)
+
+pub returns-in-Err-answer_messages-clause-told : goal.returns-in-Err-answer_messages-clause-told
+returns-in-Err-answer_messages-clause-told g c = grind (arith, common_steps)
+
+pub returns-in-Ok-answer_messages-clause-told : goal.returns-in-Ok-answer_messages-clause-told
+returns-in-Ok-answer_messages-clause-told g c = grind (arith, common_steps)

@@ -4,3 +4,6 @@ use Rattle.hall.proofs.stream.receive_line.Goals as goal
 
 pub receive-requires : goal.receive-requires
 receive-requires c = grind (arith, common_steps)
+
+pub pieces-preserved : goal.pieces-preserved
+pieces-preserved g c = grind (arith, common_steps)

@@ -1,5 +1,6 @@
-use Rattle.std.proofs.Common.{◌≡◌, ◌∙◌, ℕ, List, Ok, Err, refl, sym, ap, subst}
+use Rattle.std.proofs.Common.{◌≡◌, ◌∙◌, ℕ, List, Ok, Err, refl, sym, ap, subst, arith}
 use Rattle.std.specs.Io.KnownBytes.{Appends, Consumes}
+use Rattle.std.proofs.lemmas.Grind.{common_steps}
 use Rattle.hall.specs.Stream.{asked_in, HasTold}
 use Rattle.reg_entry.specs.Operations.{board_after}
 use Rattle.hall.proofs.Lines.{asks_as, body_is, fault_told, stream_told}
@@ -55,3 +56,36 @@ returns-in-Ok-look-clause-line g c =
             (subst (λ w. HasTold tell.result w c.bytes.result.now (g.L.Sink.written tell.new.link)) c.receive_line.ensures.written tell.ensures.told);
       },
     )
+
+pub returns-in-Err-clause-told : goal.returns-in-Err-clause-told
+returns-in-Err-clause-told g c = grind (arith, common_steps)
+
+pub returns-in-Err-read_asked-clause-told : goal.returns-in-Err-read_asked-clause-told
+returns-in-Err-read_asked-clause-told g c = grind (arith, common_steps)
+
+pub returns-in-Err-Shut-clause-told : goal.returns-in-Err-Shut-clause-told
+returns-in-Err-Shut-clause-told g c = grind (arith, common_steps)
+
+pub returns-in-Err-Shut-clause-shut : goal.returns-in-Err-Shut-clause-shut
+returns-in-Err-Shut-clause-shut g c = grind (arith, common_steps)
+
+pub returns-in-Err-Shut-clause-open : goal.returns-in-Err-Shut-clause-open
+returns-in-Err-Shut-clause-open g c = grind (arith, common_steps)
+
+pub returns-in-Err-NoMemory-clause-told : goal.returns-in-Err-NoMemory-clause-told
+returns-in-Err-NoMemory-clause-told g c = grind (arith, common_steps)
+
+pub returns-in-Err-NoMemory-clause-shut : goal.returns-in-Err-NoMemory-clause-shut
+returns-in-Err-NoMemory-clause-shut g c = grind (arith, common_steps)
+
+pub returns-in-Err-NoMemory-clause-open : goal.returns-in-Err-NoMemory-clause-open
+returns-in-Err-NoMemory-clause-open g c = grind (arith, common_steps)
+
+pub returns-in-Ok-look-clause-told : goal.returns-in-Ok-look-clause-told
+returns-in-Ok-look-clause-told g c = grind (arith, common_steps)
+
+pub returns-in-Ok-look-clause-shut : goal.returns-in-Ok-look-clause-shut
+returns-in-Ok-look-clause-shut g c = grind (arith, common_steps)
+
+pub returns-in-Ok-look-clause-open : goal.returns-in-Ok-look-clause-open
+returns-in-Ok-look-clause-open g c = grind (arith, common_steps)

@@ -16,3 +16,18 @@ returns-in-Err-submit g c = grind (arith, common_steps)
 
 pub learn-requires : goal.learn-requires
 learn-requires g c = grind (arith, common_steps)
+
+pub returns-in-Ok-learn-clause-entries : goal.returns-in-Ok-learn-clause-entries
+returns-in-Ok-learn-clause-entries g c = grind (arith, common_steps)
+
+pub returns-in-Ok-learn-clause-published : goal.returns-in-Ok-learn-clause-published
+returns-in-Ok-learn-clause-published g c = grind (arith, common_steps)
+
+pub returns-in-Ok-learn-clause-seen : goal.returns-in-Ok-learn-clause-seen
+returns-in-Ok-learn-clause-seen g c = grind (arith, common_steps)
+
+pub returns-in-Ok-learn-clause-shut : goal.returns-in-Ok-learn-clause-shut
+returns-in-Ok-learn-clause-shut g c = grind (arith, common_steps)
+
+pub returns-in-Ok-learn-clause-open : goal.returns-in-Ok-learn-clause-open
+returns-in-Ok-learn-clause-open g c = grind (arith, common_steps)

@@ -1,4 +1,5 @@
-use Rattle.std.proofs.Common.{◌∙◌, refl, Some}
+use Rattle.std.proofs.Common.{◌∙◌, refl, Some, arith}
+use Rattle.std.proofs.lemmas.Grind.{elements}
 use Rattle.slot_pool.proofs.Places.{cell_read, held_there, set_there, live_within}
 use Rattle.slot_pool.proofs.Stacks.{pool_rewritten}
 use Rattle.slot_pool.proofs.Unused.{live_by_view, used_there, set_used}
@@ -19,3 +20,9 @@ returns g c =
       (refl, λ w. rw c.in-Some.is (set_used c.self.inside.cells.items c.self.inside.room c.slot.inside.index (Some w) within ∙ set_there _ _ _ _ (Some w) c.self.view_is c.slot.view_is)),
       record { writes_back = tt; value = rw c.in-Some.is (held_there _ _ _ _ c.in-Some.value c.self.view_is c.slot.view_is there) },
     )
+
+pub index_mut-requires : goal.index_mut-requires
+index_mut-requires g c = grind (arith, elements)
+
+pub unreachable-requires : goal.unreachable-requires
+unreachable-requires g c = grind (arith, elements)

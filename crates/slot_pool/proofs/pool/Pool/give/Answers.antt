@@ -1,4 +1,5 @@
 use Rattle.std.proofs.Common.{◌∙◌, Some, None, ap, sym, refl, arith}
+use Rattle.std.proofs.lemmas.Grind.{elements}
 use Rattle.slot_pool.specs.Cells.{spare}
 use Rattle.slot_pool.proofs.Places.{spare_set, cell_read, cell_there, held_there, set_there, live_within}
 use Rattle.slot_pool.proofs.Stacks.{pool_given, stack_has_room}
@@ -37,3 +38,9 @@ returns-clause-count g c =
     let there = cell_there _ _ _ _ _ c.self.view_is c.slot.view_is (used_there c.self.inside.cells.items c.self.inside.room c.slot.inside.index _ (live_within c.self.inside.cells.items c.slot.inside.index live) cell) in
     let count = spare_set c.args.self.now c.args.slot.now (Some c.in-Some.value) None there in
     ap spare (returns-clause-given g c) ∙ omega (arith, count)
+
+pub index_mut-requires : goal.index_mut-requires
+index_mut-requires g c = grind (arith, elements)
+
+pub unreachable-requires : goal.unreachable-requires
+unreachable-requires g c = grind (arith, elements)

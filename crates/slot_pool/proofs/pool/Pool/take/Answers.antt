@@ -1,5 +1,6 @@
 use Rattle.std.proofs.Common.{◌∙◌, ◌+◌, arith, ◌++◌, ◌∷◌, [], None, Some, length, ◌<◌, ap, sym}
 use Rattle.std.proofs.lemmas.Option.{slice_get_within}
+use Rattle.std.proofs.lemmas.Grind.{common_steps}
 use Rattle.slot_pool.specs.Cells.{spare}
 use Rattle.slot_pool.proofs.Places.{spare_set, cell_there, placed, set_there}
 use Rattle.slot_pool.proofs.Stacks.{last_is_vacant, pool_taken, pool_begun}
@@ -57,3 +58,12 @@ returns-in-None-clause-placed g c =
 
 pub returns-in-None-2-clause-vacant : goal.returns-in-None-2-clause-vacant
 returns-in-None-2-clause-vacant g c = cc
+
+pub invariant_of-self-else-len-self : goal.invariant_of-self-else-len-self
+invariant_of-self-else-len-self g c = grind (arith, common_steps)
+
+pub returns-in-None-clause-count : goal.returns-in-None-clause-count
+returns-in-None-clause-count g c = grind (arith, common_steps)
+
+pub returns-in-None-2-clause-full : goal.returns-in-None-2-clause-full
+returns-in-None-2-clause-full g c = grind (arith, common_steps)

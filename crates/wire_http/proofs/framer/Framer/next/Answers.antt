@@ -1,4 +1,5 @@
-use Rattle.std.proofs.Common.{◌≡◌, ◌+◌, ap, ◌∙◌, sym, subst, drop}
+use Rattle.std.proofs.Common.{◌≡◌, ◌+◌, ap, ◌∙◌, sym, subst, drop, arith}
+use Rattle.std.proofs.lemmas.Grind.{common_steps}
 use Rattle.wire_http.specs.declared.message.Step.{Step}
 use Rattle.wire_http.specs.Step.{IsFirst, IsFirstMessage}
 use Rattle.wire_http.specs.Framer.{framer_of, Takes}
@@ -29,3 +30,18 @@ returns-in-Message-clause-step c =
     subst (λ (s : Step). IsFirst s c.from_there.result.now c.args.ended) c.in-Message.is c.first_step-found.ensures.step in
     subst (λ (s : Step). Takes s c.args.self.now c.args.ended (framer_of f.buffer.items at c.in-Message.message)) (sym c.in-Message.is)
     (gives_message f.buffer.items f.at f.given c.in-Message.message c.args.self.now c.self.view_is (subst (IsFirstMessage c.in-Message.message) left first))
+
+pub first_step-found-requires : goal.first_step-found-requires
+first_step-found-requires c = grind (arith, common_steps)
+
+pub returns-in-More-clause-step : goal.returns-in-More-clause-step
+returns-in-More-clause-step c = grind (arith, common_steps)
+
+pub returns-in-More-clause-spare : goal.returns-in-More-clause-spare
+returns-in-More-clause-spare c = grind (arith, common_steps)
+
+pub returns-else-at-gt0-clause-spare : goal.returns-else-at-gt0-clause-spare
+returns-else-at-gt0-clause-spare c = grind (arith, common_steps)
+
+pub returns-clause-step : goal.returns-clause-step
+returns-clause-step c = grind (arith, common_steps)
