@@ -1,6 +1,7 @@
 use Rattle.std.proofs.Common.{◌^◌, ◌<◌, arith}
 use Rattle.std.proofs.lemmas.Bool.Decides.{nat_tests}
 use Rattle.std.proofs.lemmas.List.Elements.{All-push}
+use Rattle.std.proofs.lemmas.Grind.{common_steps}
 use Rattle.reverse_zone.specs.Zone.{label_bits}
 use Rattle.mirror_core.proofs.Parted.{goes_on, stops, overflows, ends, last_stops, last_overflows}
 use Rattle.mirror_core.proofs.names.labels_of.Goals as goal
@@ -34,3 +35,9 @@ returns-then-is_full-2-clause-none c =
 pub returns-clause-some : goal.returns-clause-some
 returns-clause-some c =
     rw c.push-2.ensures.items (ends _ _ _ _ c.labels.invariant.read c.in_default.ensures.none _ c.in_ok-label-2.ensures.label)
+
+pub labels-smaller : goal.labels-smaller
+labels-smaller c = grind (arith, common_steps)
+
+pub returns-clause-bounds : goal.returns-clause-bounds
+returns-clause-bounds c = grind (arith, common_steps)

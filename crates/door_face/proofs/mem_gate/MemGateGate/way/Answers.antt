@@ -1,4 +1,5 @@
-use Rattle.std.proofs.Common.{Some, length, ap, refl}
+use Rattle.std.proofs.Common.{Some, length, ap, refl, arith}
+use Rattle.std.proofs.lemmas.Grind.{common_steps}
 use Rattle.door_face.specs.MemGate.{the_door, links_of}
 use Rattle.door_face.proofs.mem_gate.MemGateGate.way.Goals as goal
 
@@ -10,3 +11,12 @@ returns-in-Some-clause-to_come g c = (
   ap (λ w. Some (length w.to_come)) c.given_for.ensures,
   refl,
 )
+
+pub returns-in-Some-clause-other : goal.returns-in-Some-clause-other
+returns-in-Some-clause-other g c = grind (arith, common_steps)
+
+pub returns-in-None-clause-given : goal.returns-in-None-clause-given
+returns-in-None-clause-given g c = grind (arith, common_steps)
+
+pub returns-in-None-clause-cause : goal.returns-in-None-clause-cause
+returns-in-None-clause-cause g c = grind (arith, common_steps)
