@@ -8,7 +8,7 @@ use std::alloc::{AllocError, Global};
 use std::marker::Model;
 
 /// The bytes of a published text, in memory of its own.
-#[derive(Debug, Drop)]
+#[derive(Drop)]
 pub struct Body {
     bytes: Vec<u8>,
 }
@@ -48,7 +48,7 @@ impl Body {
 }
 
 /// How a body is to be read.
-#[derive(Clone, Copy, Debug, PartialEq, Eq)]
+#[derive(Clone, Copy, PartialEq, Eq)]
 pub enum Media {
     /// JSON of the Registration Data Access Protocol (RFC 9083 4.2).
     Json,
@@ -57,7 +57,7 @@ pub enum Media {
 }
 
 /// What is answered to a question about the register.
-#[derive(Debug, Drop)]
+#[derive(Drop)]
 pub struct Answer {
     /// The status code (RFC 9110 15).
     pub status: u16,

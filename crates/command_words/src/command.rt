@@ -18,7 +18,7 @@ use std::alloc::{AllocError, Global};
 const MOST_REQUESTS: u32 = 900_000;
 
 /// What is published of a register as files.
-#[derive(Clone, Copy, Debug, PartialEq, Eq)]
+#[derive(Clone, Copy)]
 pub enum Publication {
     /// The statistics file.
     Statistics,
@@ -27,7 +27,7 @@ pub enum Publication {
 }
 
 /// What the program is asked to do.
-#[derive(Clone, Copy, Debug, PartialEq, Eq)]
+#[derive(Clone, Copy)]
 pub enum Command {
     /// To answer a script line by line.
     Batch,

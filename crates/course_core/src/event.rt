@@ -1,7 +1,7 @@
 use reg_entry::{Name, Reply, Request};
 
 /// What may happen to a register and those who read it.
-#[derive(Clone, Copy, Debug, PartialEq, Eq)]
+#[derive(Clone, Copy)]
 pub enum Event {
     /// A hostmaster asks for a change, on a day of the clock.
     Submit {
@@ -27,7 +27,7 @@ pub enum Event {
 }
 
 /// The answer to an event.
-#[derive(Clone, Copy, Debug, PartialEq, Eq)]
+#[derive(Clone, Copy)]
 pub enum Said {
     /// What became of a submitted request.
     Decided(Reply),

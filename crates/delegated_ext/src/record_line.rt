@@ -6,7 +6,7 @@ use num_range::{Range, Space};
 use reg_entry::Card;
 
 /// A record of the statistics file by its values: so many numbers of a space, from the first one on, and their card.
-#[derive(Clone, Copy, Debug, PartialEq, Eq)]
+#[derive(Clone, Copy)]
 pub struct RecordLine {
     pub space: Space,
     pub start: u128,

@@ -7,7 +7,7 @@ use reg_entry::Name;
 use std::alloc::{AllocError, Global};
 
 /// Asks for the statistics file under the registry's name.
-#[derive(Clone, Copy, Debug, PartialEq, Eq)]
+#[derive(Clone, Copy)]
 pub struct StatsLens {
     pub registry: Name,
 }

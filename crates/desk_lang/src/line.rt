@@ -15,7 +15,7 @@ use reg_entry::{Handle, Holder, Host, Name, Request, SERVER_ROOM, Servers};
 pub const LINE_ROOM: usize = 1024;
 
 /// A line of the desk language.
-#[derive(Clone, Copy, Debug, PartialEq, Eq)]
+#[derive(Clone, Copy)]
 pub enum Line {
     Request(Request),
     /// What is known of a number?

@@ -15,7 +15,7 @@ pub struct Malformed {
 }
 
 /// How a word stands in a line.
-#[derive(Clone, Copy, Debug, PartialEq, Eq)]
+#[derive(Clone, Copy)]
 pub enum Form {
     Plain,
     /// Between quotes.

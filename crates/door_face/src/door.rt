@@ -1,5 +1,5 @@
 /// The two doors of the register.
-#[derive(Clone, Copy, Debug, PartialEq, Eq)]
+#[derive(Clone, Copy)]
 pub enum Door {
     /// Where HTTP is spoken.
     Http,

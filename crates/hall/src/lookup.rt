@@ -12,7 +12,7 @@ use std::alloc::{AllocError, Global};
 use wire_http::write_error;
 
 /// What is looked up.
-#[derive(Clone, Copy, Debug, PartialEq, Eq)]
+#[derive(Clone, Copy)]
 pub enum Lookup {
     /// A registration (RFC 9082 3.1).
     Rdap(RdapAsk),

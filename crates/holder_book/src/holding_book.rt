@@ -13,7 +13,7 @@ use std::marker::Model;
 
 /// Of the numbers of one space that a holder holds: how many they are, how many of them are allocated, and how many of these
 /// are used.
-#[derive(Clone, Copy, Debug, PartialEq, Eq)]
+#[derive(Clone, Copy)]
 pub struct Held {
     pub held: u128,
     pub allocated: u128,
@@ -21,7 +21,7 @@ pub struct Held {
 }
 
 /// What a holder holds.
-#[derive(Clone, Copy, Debug, PartialEq, Eq)]
+#[derive(Clone, Copy)]
 pub struct Holding {
     asn: Held,
     ipv4: Held,

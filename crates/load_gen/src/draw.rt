@@ -12,7 +12,7 @@ use std::marker::Model;
 pub const FIRST_DAY: u32 = 19723;
 
 /// What a load asks next, but for the piece that it may name.
-#[derive(Clone, Copy, Debug, PartialEq, Eq)]
+#[derive(Clone, Copy)]
 pub struct Draw {
     place: u32,
     number: u64,

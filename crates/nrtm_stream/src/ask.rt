@@ -5,7 +5,7 @@ ghost use Rattle.nrtm_stream.specs.Ask.{fault_text};
 use thiserror::Error;
 
 /// The serials of the operations that are asked for.
-#[derive(Clone, Copy, Debug, PartialEq, Eq)]
+#[derive(Clone, Copy)]
 pub struct Ask {
     pub first: u64,
     /// The last serial, or nothing for the word `LAST`: the register's last, whatever that is.

@@ -10,7 +10,7 @@ use std::alloc::{AllocError, Global};
 
 /// Asks for the operations of these serials, as a stream under the registry's name. Where not all are kept the answer is one
 /// line that says so.
-#[derive(Clone, Copy, Debug, PartialEq, Eq)]
+#[derive(Clone, Copy)]
 pub struct NrtmLens {
     pub ask: Ask,
     pub registry: Name,

@@ -6,7 +6,7 @@ use crate::Space;
 use std::marker::Model;
 
 /// One number of a space.
-#[derive(Clone, Copy, Debug, PartialEq, Eq, PartialOrd, Ord)]
+#[derive(Clone, Copy, Debug, PartialEq, Eq)]
 pub struct Number {
     space: Space,
     value: u128,

@@ -1,7 +1,7 @@
 use reg_entry::Card;
 
 /// What a piece has beside its space and its first number.
-#[derive(Clone, Copy, Debug, PartialEq, Eq)]
+#[derive(Clone, Copy)]
 pub struct Part {
     pub last: u128,
     pub card: Card,

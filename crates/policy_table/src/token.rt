@@ -7,7 +7,7 @@ use reg_entry::Label;
 use std::marker::Model;
 
 /// The secret by which a hostmaster is known: 8 to 64 bytes in the form of a bearer token (RFC 6750 2.1).
-#[derive(Clone, Copy, PartialEq, Eq)]
+#[derive(Clone, Copy)]
 pub(crate) struct Token {
     label: Label<96>,
 }

@@ -2,7 +2,7 @@ use num_range::Range;
 use reg_entry::Holder;
 
 /// How numbers are registered.
-#[derive(Clone, Copy, Debug, PartialEq, Eq)]
+#[derive(Clone, Copy)]
 pub enum NetKind {
     /// To a holder who makes sub-assignments.
     Allocated,
@@ -13,7 +13,7 @@ pub enum NetKind {
 }
 
 /// What is told of a registration of numbers.
-#[derive(Clone, Copy, Debug, PartialEq, Eq)]
+#[derive(Clone, Copy)]
 pub struct NetFacts {
     pub range: Range,
     pub kind: NetKind,

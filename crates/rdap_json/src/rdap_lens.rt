@@ -18,7 +18,7 @@ use std::alloc::{AllocError, Global};
 use wire_http::write_error;
 
 /// Asks for a registration of numbers, or for what is served.
-#[derive(Clone, Copy, Debug, PartialEq, Eq)]
+#[derive(Clone, Copy)]
 pub struct RdapLens {
     pub ask: RdapAsk,
 }

@@ -2,7 +2,7 @@ ghost use Rattle.std.specs.Prelude.{◌≡◌};
 ghost use Rattle.reg_entry.specs.Card.{is_available, is_delegated, plain_card};
 
 /// What may be done with the numbers of a piece, and what was.
-#[derive(Clone, Copy, Debug, PartialEq, Eq, PartialOrd, Ord)]
+#[derive(Clone, Copy, PartialEq, Eq)]
 pub enum Status {
     /// In the pool, and free to be delegated.
     Available,
@@ -33,7 +33,7 @@ impl Status {
 
 /// What the register knows of each number of a piece: its status, the number of its holder, and days counted from
 /// 1970-01-01, where 0 is no day.
-#[derive(Clone, Copy, Debug, PartialEq, Eq)]
+#[derive(Clone, Copy, PartialEq, Eq)]
 pub struct Card {
     pub status: Status,
     pub holder: Option<u32>,

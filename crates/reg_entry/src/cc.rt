@@ -5,7 +5,7 @@ use crate::Label;
 use std::marker::Model;
 
 /// A country code of two capital letters (ISO 3166-1 alpha-2).
-#[derive(Clone, Copy, Debug, PartialEq, Eq, PartialOrd, Ord)]
+#[derive(Clone, Copy, PartialEq, Eq)]
 pub struct Cc {
     label: Label<2>,
 }

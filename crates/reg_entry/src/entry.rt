@@ -3,7 +3,7 @@ use num_range::Range;
 use std::marker::Model;
 
 /// A request that was accepted, as the journal keeps it.
-#[derive(Clone, Copy, Debug, PartialEq, Eq)]
+#[derive(Clone, Copy, PartialEq, Eq)]
 pub struct Entry {
     /// The entry's place in the journal, from 1.
     pub seq: u64,
@@ -28,7 +28,7 @@ impl Model for Entry {
 }
 
 /// The answer to a request.
-#[derive(Clone, Copy, Debug, PartialEq, Eq)]
+#[derive(Clone, Copy, PartialEq, Eq)]
 pub enum Reply {
     Accepted(Entry),
     Refused(Refusal),

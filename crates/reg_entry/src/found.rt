@@ -2,7 +2,7 @@ use crate::{Piece, SubCard};
 use num_range::Range;
 
 /// A registration that was looked for.
-#[derive(Clone, Copy, Debug, PartialEq, Eq)]
+#[derive(Clone, Copy)]
 pub enum Found {
     /// A delegated piece.
     Piece(Piece),

@@ -6,7 +6,7 @@ use crate::Label;
 use std::marker::Model;
 
 /// The name under which a holder is known: a capital letter, then capitals, digits and `-`, 24 bytes at most.
-#[derive(Clone, Copy, Debug, PartialEq, Eq, PartialOrd, Ord)]
+#[derive(Clone, Copy, PartialEq, Eq, PartialOrd, Ord)]
 pub struct Handle {
     label: Label<24>,
 }

@@ -1,7 +1,7 @@
 use crate::{Cc, Handle, Kind, Text};
 
 /// Who may hold numbers, as the register knows them.
-#[derive(Clone, Copy, Debug, PartialEq, Eq)]
+#[derive(Clone, Copy, PartialEq, Eq)]
 pub struct Holder {
     pub handle: Handle,
     pub kind: Kind,

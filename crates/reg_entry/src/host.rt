@@ -9,7 +9,7 @@ use std::marker::Model;
 
 /// The full name of a name server, without its last dot: two or more labels of 1 to 63 small letters, digits and `-`
 /// with no `-` at either end (RFC 1123 2.1), parted by dots, 96 bytes at most.
-#[derive(Clone, Copy, Debug, PartialEq, Eq, PartialOrd, Ord)]
+#[derive(Clone, Copy, PartialEq, Eq)]
 pub struct Host {
     label: Label<96>,
 }

@@ -9,7 +9,7 @@ use std::cmp::Ordering;
 use std::marker::Model;
 
 /// A list of at most `N` bytes that is copied as a whole.
-#[derive(Clone, Copy, Debug)]
+#[derive(Clone, Copy)]
 pub struct Label<const N: usize> {
     // The bytes past the length are 0, so that the list gives the fields back.
     array: [u8; N],

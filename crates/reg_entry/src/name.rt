@@ -6,7 +6,7 @@ use crate::Label;
 use std::marker::Model;
 
 /// The name of the registry or of one of its hostmasters: 1 to 24 small letters and digits.
-#[derive(Clone, Copy, Debug, PartialEq, Eq, PartialOrd, Ord)]
+#[derive(Clone, Copy, PartialEq, Eq, PartialOrd, Ord)]
 pub struct Name {
     label: Label<24>,
 }

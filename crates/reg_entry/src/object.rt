@@ -3,7 +3,7 @@ use num_range::Range;
 use std::marker::Model;
 
 /// What the register publishes of one thing that it keeps (RFC 2622 names the classes but for the sub-assignment).
-#[derive(Clone, Copy, Debug, PartialEq, Eq)]
+#[derive(Clone, Copy, PartialEq, Eq)]
 pub enum Object {
     /// A holder, with the day on which its fields were last given.
     Org {
@@ -31,7 +31,7 @@ pub enum Object {
 }
 
 /// What tells one object of the register from all others. Keys are ordered by class, then by handle or range.
-#[derive(Clone, Copy, Debug, PartialEq, Eq, PartialOrd, Ord)]
+#[derive(Clone, Copy, PartialEq, Eq, PartialOrd, Ord)]
 pub enum Key {
     Org(Handle),
     Block(Range),
@@ -40,7 +40,7 @@ pub enum Key {
 }
 
 /// What an operation does with its object.
-#[derive(Clone, Copy, Debug, PartialEq, Eq)]
+#[derive(Clone, Copy, PartialEq, Eq)]
 pub enum Act {
     /// The object is there from now on, in the place of the one of its key.
     Add,
@@ -49,7 +49,7 @@ pub enum Act {
 }
 
 /// One step of the change stream. Serials count from 1 without gaps.
-#[derive(Clone, Copy, Debug, PartialEq, Eq)]
+#[derive(Clone, Copy, PartialEq, Eq)]
 pub struct Op {
     pub serial: u64,
     pub act: Act,

@@ -2,7 +2,7 @@ use crate::Card;
 use num_range::{Range, Space};
 
 /// A range of numbers that have one card.
-#[derive(Clone, Copy, Debug, PartialEq, Eq)]
+#[derive(Clone, Copy, PartialEq, Eq)]
 pub struct Piece {
     pub range: Range,
     pub card: Card,

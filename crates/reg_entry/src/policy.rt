@@ -1,7 +1,7 @@
 use crate::{Host, Servers};
 
 /// What the policy says of delegations of one space and status.
-#[derive(Clone, Copy, Debug, PartialEq, Eq)]
+#[derive(Clone, Copy, PartialEq, Eq)]
 pub struct Row {
     /// The least and the most amount: prefix lengths, or counts of AS numbers.
     pub least: u32,
@@ -15,7 +15,7 @@ pub struct Row {
 }
 
 /// The values that all reverse zones share (RFC 1035 3.3.13, RFC 2308 4).
-#[derive(Clone, Copy, Debug, PartialEq, Eq)]
+#[derive(Clone, Copy)]
 pub struct ZoneTerms {
     pub mname: Host,
     pub rname: Host,

@@ -4,7 +4,7 @@ use crate::{Handle, Holder, Servers, Status};
 use num_range::{Number, Range, Space};
 
 /// How a holder may use what is delegated to it.
-#[derive(Clone, Copy, Debug, PartialEq, Eq)]
+#[derive(Clone, Copy, PartialEq, Eq)]
 pub enum Delegation {
     /// The holder makes sub-assignments.
     Allocate,
@@ -27,7 +27,7 @@ impl Delegation {
 }
 
 /// What a hostmaster may ask of the register.
-#[derive(Clone, Copy, Debug, PartialEq, Eq)]
+#[derive(Clone, Copy, PartialEq, Eq)]
 pub enum Request {
     /// A range comes into the pool.
     Receive {

@@ -1,5 +1,5 @@
 /// How much a register may keep.
-#[derive(Clone, Copy, Debug, PartialEq, Eq)]
+#[derive(Clone, Copy, PartialEq, Eq)]
 pub struct Rooms {
     pub pieces: u32,
     pub holders: u32,

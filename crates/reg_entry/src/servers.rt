@@ -10,7 +10,7 @@ use std::marker::Model;
 pub const SERVER_ROOM: usize = 4;
 
 /// The name servers of a reverse entry, one to four, in the order in which they were given.
-#[derive(Clone, Copy, Debug)]
+#[derive(Clone, Copy)]
 pub struct Servers {
     // The places past the length repeat the first host, so that the list gives the fields back.
     array: [Host; SERVER_ROOM],

@@ -1,5 +1,5 @@
 /// What the register knows of a sub-assignment: the number of its holder, and its day.
-#[derive(Clone, Copy, Debug, PartialEq, Eq)]
+#[derive(Clone, Copy)]
 pub struct SubCard {
     pub holder: u32,
     pub day: u32,

@@ -7,7 +7,7 @@ use std::marker::Model;
 
 /// A text that is stored as it stands: 1 to 96 bytes of printable ASCII without `"`, `#` and `\`, and with no blank at
 /// either end.
-#[derive(Clone, Copy, Debug, PartialEq, Eq, PartialOrd, Ord)]
+#[derive(Clone, Copy, PartialEq, Eq)]
 pub struct Text {
     label: Label<96>,
 }

@@ -19,7 +19,7 @@ use link_face::{Failed, Sink, Source};
 pub const PIECE: usize = 8192;
 
 /// Why a script isn't answered to its end.
-#[derive(Clone, Copy, Debug, PartialEq, Eq)]
+#[derive(Clone, Copy)]
 pub enum Stop {
     Read,
     Write,

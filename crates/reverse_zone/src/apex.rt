@@ -10,7 +10,7 @@ use num_range::{Range, Space};
 
 /// The top of a reverse zone: the first octet of the zone's IPv4 addresses, or the first three nibbles of its IPv6
 /// addresses, from 0x200 to 0x3ff.
-#[derive(Clone, Copy, Debug, PartialEq, Eq)]
+#[derive(Clone, Copy)]
 pub enum Apex {
     Four(u8),
     Six(u16),

@@ -13,7 +13,7 @@ use wire_http::write_error;
 
 /// Asks for the reverse zone of the apex, with what the policy says of all zones. Other nibbles than those of an apex have
 /// no zone.
-#[derive(Clone, Copy, Debug, PartialEq, Eq)]
+#[derive(Clone, Copy)]
 pub struct ZoneLens {
     pub terms: ZoneTerms,
     pub apex: Apex,

@@ -1,14 +1,14 @@
 //! Messages, and what a framer answers.
 
 /// A message that a framer gave: how many bytes its head has with the empty line that ends it, and how many its body.
-#[derive(Clone, Copy, Debug, PartialEq, Eq)]
+#[derive(Clone, Copy)]
 pub struct Message {
     pub head: usize,
     pub body: usize,
 }
 
 /// What stands at the front of what has come.
-#[derive(Clone, Copy, Debug, PartialEq, Eq)]
+#[derive(Clone, Copy)]
 pub enum Step {
     Message(Message),
     /// More bytes are wanted.

@@ -7,7 +7,7 @@ use addr_text::{append, append_decimal};
 use arrayvec::ArrayVec;
 
 /// What the head of a reply says.
-#[derive(Clone, Copy, Debug, PartialEq, Eq)]
+#[derive(Clone, Copy)]
 pub struct ReplyHead {
     pub code: u16,
     /// Whether the body is JSON, and else plain text.

@@ -9,7 +9,7 @@ use reg_entry::Piece;
 
 /// The place of an available piece in the index: first by space, then by how large a block it has room for, then by its
 /// first number.
-#[derive(Clone, Copy, Debug, PartialEq, Eq, PartialOrd, Ord)]
+#[derive(Clone, Copy, PartialEq, Eq, PartialOrd, Ord)]
 pub struct FreeKey {
     pub(super) space: Space,
     pub(super) class: u32,
