@@ -2,12 +2,12 @@
 //! holder it says of what was found: to look it up is the caller's part.
 ghost use Rattle.std.specs.Prelude.{◌≡◌, ◌==◌, ◌<◌, not, length, IfSome};
 ghost use Rattle.std.specs.Option.{is_some, option_and_then};
-ghost use Rattle.reg_entry.specs.declared.refusal.Refusal.TheVariants.{OutsidePool, NotOnePiece, WrongStatus, UnknownHolder, CardsDiffer};
+ghost use Rattle.reg_entry.specs.declared.refusal.Refusal.TheVariants.{OutsidePool, NotOnePiece, WrongStatus, UnknownHolder, HandleTaken, CardsDiffer};
 ghost use Rattle.reg_entry.specs.Card.{is_available, is_delegated, same_card};
 ghost use Rattle.reg_entry.specs.Holders.{handle_at};
 ghost use Rattle.reg_entry.specs.Ranges.{lies_inside, same_range};
 ghost use Rattle.reg_entry.specs.Register.{piece_of};
-ghost use Rattle.reg_entry.specs.Decision.{refuse_if, begins_space, is_status, handle_taken, already_pooled};
+ghost use Rattle.reg_entry.specs.Decision.{refuse_if, begins_space, is_status, already_pooled};
 ghost use Rattle.board.specs.FoundPiece.{IsFoundIn, HasKnownHolder, of_other_holder};
 
 use crate::Board;
@@ -92,6 +92,13 @@ pub(crate) fn unknown_holder(holder: Option<u32>, handle: &Handle) -> Option<Ref
     Refusal::UnknownHolder { handle: *handle }.when(holder.is_none())
 }
 
+/// The number of the holder, where there is one with the handle already.
+pub(crate) fn handle_taken(holder: Option<u32>) -> Option<Refusal>
+    ensures { result ≡ refuse_if (is_some holder) HandleTaken }
+{
+    Refusal::HandleTaken.when(holder.is_some())
+}
+
 impl Board {
     /// The piece that holds the number.
     #[tactic(auto, using(crate::proofs::FoundPieces::found_if, crate::proofs::Known::holder_if))]
@@ -124,12 +131,6 @@ impl Board {
             holder: self.handle_at(number),
         }
         .when(holder != Some(number))
-    }
-
-    pub(crate) fn handle_taken(&self, handle: &Handle) -> Option<Refusal>
-        ensures { result ≡ handle_taken self.now.register handle.now }
-    {
-        Refusal::HandleTaken.when(self.holders().by_handle(handle).is_some())
     }
 
     pub(crate) fn already_pooled(&self, range: &Range) -> Option<Refusal>

@@ -1,17 +1,19 @@
 //! Whether a request may be done on a day, and there is room.
-ghost use Rattle.std.specs.Prelude.{◌≡◌, ◌≤◌, ◌^◌, None};
+ghost use Rattle.std.specs.Prelude.{◌≡◌, None};
 ghost use Rattle.num_range.specs.Number.{PlainNumber};
 ghost use Rattle.reg_entry.specs.declared.request.Request.TheVariants.{Split};
-ghost use Rattle.reg_entry.specs.Decision.{first_of, late_rules, refuse_if, journal_full, holders_full, within_hold_time, not_due, has_subs, straddled, no_block};
-ghost use Rattle.reg_entry.specs.declared.refusal.Refusal.TheVariants.{RegisterFull};
+ghost use Rattle.reg_entry.specs.Decision.{first_of, late_rules, refuse_if, journal_full, holders_full, has_subs, straddled, no_block};
+ghost use Rattle.reg_entry.specs.declared.refusal.Refusal.TheVariants.{HoldTime, NotDue, RegisterFull};
 ghost use Rattle.reg_entry.specs.Partition.{piece_count};
 ghost use Rattle.reg_entry.specs.Register.{painted, reshaped};
 ghost use Rattle.std.specs.Prelude.{nat_lt};
+ghost use Rattle.std.specs.Option.{option_and_then};
+ghost use Rattle.board.specs.Subject.{IsPieceAt, IsSubjectOf};
 
-use crate::Board;
 use crate::reverse_conditions::no_reverse_space;
+use crate::{Board, Subject};
 use num_range::{Number, Range};
-use reg_entry::{Card, Refusal, Request};
+use reg_entry::{Card, Piece, Refusal, Request};
 
 fn no_block(cover: &Option<Range>) -> Option<Refusal>
     ensures { result ≡ no_block cover.now }
@@ -19,21 +21,21 @@ fn no_block(cover: &Option<Range>) -> Option<Refusal>
     Refusal::NoBlock.when(cover.is_none())
 }
 
+fn within_hold_time(piece: Option<Piece>, day: u32) -> Option<Refusal>
+    ensures { result ≡ option_and_then (λ p. refuse_if (nat_lt day p.card.until) (HoldTime p.card.until)) piece }
+{
+    let until = piece?.card.until;
+    Refusal::HoldTime { until }.when(day < until)
+}
+
+fn not_due(piece: Option<Piece>, day: u32) -> Option<Refusal>
+    ensures { result ≡ option_and_then (λ p. refuse_if (nat_lt day p.card.until) (NotDue p.card.until)) piece }
+{
+    let until = piece?.card.until;
+    Refusal::NotDue { until }.when(day < until)
+}
+
 impl Board {
-    fn within_hold_time(&self, range: &Range, day: u32) -> Option<Refusal>
-        ensures { result ≡ within_hold_time self.now.register range.now day }
-    {
-        let until = self.piece_of(range.first_number())?.card.until;
-        Refusal::HoldTime { until }.when(day < until)
-    }
-
-    fn not_due(&self, range: &Range, day: u32) -> Option<Refusal>
-        ensures { result ≡ not_due self.now.register range.now day }
-    {
-        let until = self.piece_of(range.first_number())?.card.until;
-        Refusal::NotDue { until }.when(day < until)
-    }
-
     /// Where painting the card over the cover takes more pieces than there is room for.
     fn painted_full(&self, cover: &Option<Range>, card: &Option<Card>) -> Option<Refusal>
         ensures { result ≡ refuse_if (nat_lt self.now.register.rooms.pieces (piece_count (painted cover.now card.now self.now.register.pool)))
@@ -49,14 +51,15 @@ impl Board {
         }
     }
 
-    /// How many pieces there would be once the piece that holds the number was split before it.
+    /// How many pieces there would be once this one, which holds the number, was split before it.
     #[tactic(auto, using(crate::proofs::Splitting::count_split))]
-    fn split_count(&self, at: Number) -> u32
+    fn split_count(&self, at: Number, piece: Option<Piece>) -> u32
+        requires { IsPieceAt self.now.register at piece }
         ensures { result ≡ piece_count (reshaped (Split at) self.now.register.pool) }
     {
         self.is_whole();
         let pieces = self.pieces().pieces();
-        match self.piece_of(at) {
+        match piece {
             Some(piece) if piece.range.first() < at.value() => pieces + 1,
             _ => pieces,
         }
@@ -88,10 +91,12 @@ impl Board {
     pub fn late_refusal(
         &self,
         request: &Request,
+        subject: &Subject,
         day: u32,
         cover: &Option<Range>,
         card: &Option<Card>,
     ) -> Option<Refusal>
+        requires subject { IsSubjectOf self.now.register request.now subject.now }
         requires split { (at : PlainNumber) → request.now ≡ Split at → card.now ≡ None }
         ensures { result ≡ first_of (late_rules self.now.register request.now day cover.now card.now) }
     {
@@ -107,14 +112,15 @@ impl Board {
             Request::Return { range, .. } => {
                 self.has_subs(range).or_else(|| self.journal_full())
             }
-            Request::Release { range } => self.not_due(range, day).or_else(|| self.journal_full()),
+            Request::Release { .. } => {
+                not_due(subject.piece, day).or_else(|| self.journal_full())
+            }
             Request::Split { at } => self
                 .straddled(*at)
-                .or_else(|| self.register_full(self.split_count(*at)))
+                .or_else(|| self.register_full(self.split_count(*at, subject.piece)))
                 .or_else(|| self.journal_full()),
-            Request::Transfer { range, .. } => {
-                self.within_hold_time(range, day)
-                    .or_else(|| self.journal_full())
+            Request::Transfer { .. } => {
+                within_hold_time(subject.piece, day).or_else(|| self.journal_full())
             }
             Request::EditHolder { .. }
             | Request::Unreserve { .. }

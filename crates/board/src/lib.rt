@@ -13,7 +13,9 @@ mod operations;
 mod pooled;
 mod reverse_conditions;
 mod sub_conditions;
+mod subject;
 
 pub use board::Board;
 pub use lens::{Answer, Body, Lens, Media};
 pub use reg_entry::{Found, Rooms, Servers, SubCard};
+pub use subject::Subject;

@@ -1,5 +1,5 @@
 //! Which entry may come next.
-ghost use Rattle.std.specs.Prelude.{◌≡◌, ◌≤◌, ◌^◌, ◌+◌, ◌-◌, ◌%◌, ◌==◌, ◌&&◌, true, None, IfSome};
+ghost use Rattle.std.specs.Prelude.{◌≡◌, ◌≤◌, ◌^◌, ◌+◌, ◌-◌, ◌%◌, ◌==◌, ◌&&◌, true, None};
 ghost use Rattle.num_range.specs.Space.{top_of};
 ghost use Rattle.reg_entry.specs.Blocks.{alignment};
 ghost use Rattle.std.specs.List.{list_any};
@@ -7,14 +7,16 @@ ghost use Rattle.num_range.specs.declared.space.Space.{Space};
 ghost use Rattle.reg_entry.specs.Next.{may_come_next, is_free_block, block_may_be, until_may_be, until_of, start_of, day_may_be, has_free, same_cover, same_painted};
 ghost use Rattle.reg_entry.specs.Covers.{cover_for, card_for};
 ghost use Rattle.reg_entry.specs.Register.{register_pieces};
-ghost use Rattle.reg_entry.specs.Days.{last_date};
 ghost use Rattle.reg_entry.specs.Request.{has_size, amount_size};
 ghost use Rattle.num_range.specs.Number.{PlainNumber};
 ghost use Rattle.reg_entry.specs.declared.request.Request.TheVariants.{Split};
 ghost use Rattle.board.specs.Starts.{MayStartAt};
 ghost use Rattle.board.specs.Free.{reaches_free};
+ghost use Rattle.board.specs.Subject.{IsSubjectOf};
+ghost use Rattle.std.specs.Option.{is_none};
+ghost use Rattle.reg_entry.specs.Decision.{first_of, early_rules, late_refusal};
 
-use crate::Board;
+use crate::{Board, Subject};
 use num_range::{Number, Range, Space};
 use reg_entry::{Card, Entry, LAST_DATE, Piece, Request};
 
@@ -130,22 +132,42 @@ impl Board {
     }
 
     /// Whether the entry covers what its request says.
-    fn has_its_cover(&self, e: &Entry) -> bool
-        requires { MayStartAt e.now.request (start_of e.now.cover) }
+    fn has_its_cover(&self, e: &Entry, subject: &Subject) -> bool
+        requires subject { IsSubjectOf self.now.register e.now.request subject.now }
+        requires start { MayStartAt e.now.request (start_of e.now.cover) }
         ensures { result ≡ same_cover e.now.cover (cover_for self.now.register e.now.request (start_of e.now.cover)) }
     {
-        same_cover(&e.cover, &self.cover_for(&e.request, start_of(&e.cover)))
+        let cover = self.cover_for(&e.request, subject, start_of(&e.cover));
+        same_cover(&e.cover, &cover)
     }
 
     /// Whether the entry paints the card that its request says.
-    fn has_its_card(&self, e: &Entry) -> bool
+    fn has_its_card(&self, e: &Entry, subject: &Subject) -> bool
+        requires { IsSubjectOf self.now.register e.now.request subject.now }
         ensures card { result ≡ same_painted e.now.card (card_for self.now.register e.now.request e.now.day (until_of e.now.card)) }
         ensures split { result ≡ true → (at : PlainNumber) → e.now.request ≡ Split at → e.now.card ≡ None }
     {
-        same_painted(
-            &e.card,
-            &self.card_for(&e.request, e.day, until_of(&e.card)),
-        )
+        let card = self.card_for(&e.request, subject, e.day, until_of(&e.card));
+        same_painted(&e.card, &card)
+    }
+
+    /// Whether the entry's block, until, cover and card are right, and no rule of the register is against it.
+    fn may_follow(&self, e: &Entry, subject: &Subject) -> bool
+        requires { IsSubjectOf self.now.register e.now.request subject.now }
+        ensures { result ≡ (is_none (first_of (early_rules self.now.register e.now.request))
+            && block_may_be self.now.register e.now.request (start_of e.now.cover)
+            && until_may_be e.now.request e.now.day (until_of e.now.card) && is_none (late_refusal self.now.register e.now)
+            && same_cover e.now.cover (cover_for self.now.register e.now.request (start_of e.now.cover))
+            && same_painted e.now.card (card_for self.now.register e.now.request e.now.day (until_of e.now.card))) }
+    {
+        self.early_refusal(&e.request, subject).is_none()
+            && self.block_may_be(&e.request, start_of(&e.cover))
+            && until_may_be(&e.request, e.day, until_of(&e.card))
+            && self.has_its_cover(e, subject)
+            && self.has_its_card(e, subject)
+            && self
+                .late_refusal(&e.request, subject, e.day, &e.cover, &e.card)
+                .is_none()
     }
 
     /// Whether the entry may come next: its number, day, cover and card are those of its request, and no rule of the
@@ -154,14 +176,6 @@ impl Board {
         ensures { result ≡ may_come_next self.now.register e.now }
     {
         e.request.has_ranges();
-        self.is_in_turn(e)
-            && self.early_refusal(&e.request).is_none()
-            && self.block_may_be(&e.request, start_of(&e.cover))
-            && until_may_be(&e.request, e.day, until_of(&e.card))
-            && self.has_its_cover(e)
-            && self.has_its_card(e)
-            && self
-                .late_refusal(&e.request, e.day, &e.cover, &e.card)
-                .is_none()
+        self.is_in_turn(e) && self.may_follow(e, &self.subject(&e.request))
     }
 }

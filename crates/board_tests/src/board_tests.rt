@@ -594,11 +594,12 @@ fn has_subs(board: &mut Board) -> bool {
 /// Why a step that paints nothing is refused, or nothing.
 fn refusal(board: &Board, step: &Option<Step>) -> Option<Refusal> {
     let step = step.as_ref()?;
-    let early = board.early_refusal(&step.request);
+    let subject = board.subject(&step.request);
+    let early = board.early_refusal(&step.request, &subject);
     if early.is_some() {
         return early;
     }
-    board.late_refusal(&step.request, step.day, &None, &None)
+    board.late_refusal(&step.request, &subject, step.day, &None, &None)
 }
 
 /// AS numbers get no name servers.
@@ -607,7 +608,8 @@ fn refuses_numbers(board: &Board) -> Option<bool> {
         range: Range::new(Space::Asn, 64496, 64496)?,
         servers: Servers::new(&[Host::read(ONE)?])?,
     };
-    let late = board.late_refusal(&request, DAY, &None, &None);
+    let subject = board.subject(&request);
+    let late = board.late_refusal(&request, &subject, DAY, &None, &None);
     Some(late == Some(Refusal::NoReverseSpace))
 }
 

@@ -6,11 +6,12 @@ ghost use Rattle.reg_entry.specs.Request.{IsSizedRequest};
 ghost use Rattle.reg_entry.specs.Rooms.{AreRooms};
 ghost use Rattle.policy_table.specs.Policy.{first_name};
 ghost use Rattle.load_gen.specs.Load.{new_load, after_reply, after_request, after_requests, drawn_piece, after_draw, after_naming, loaded};
+ghost use Rattle.board.specs.Subject.{IsSubjectOf};
 ghost use Rattle.request_core.specs.Undated.{undated_refusal};
 ghost use Rattle.load_gen.specs.Opening.{opening_requests};
 ghost use Rattle.load_run.specs.Drawable.{HasAllDrawn};
 
-use board::Board;
+use board::{Board, Subject};
 use load_gen::laws::delegations_name_no_piece;
 use load_gen::{Draw, Draws, FIRST_DAY, OPENING_REQUESTS, opening_request};
 use num_range::{Number, Range, Space};
@@ -81,7 +82,8 @@ impl<'a> Load<'a> {
     }
 
     /// Asks, on the day, what isn't refused whatever the day.
-    fn ask_on_day(&mut self, day: u32, request: &Request)
+    fn ask_on_day(&mut self, day: u32, request: &Request, subject: &Subject)
+        requires subject { IsSubjectOf self.old.register request.now subject.now }
         requires few { self.old.refused + 1 < 2 ^ 64 }
         requires sized { IsSizedRequest request.now }
         requires unopposed { undated_refusal self.old.register self.old.policy self.old.who request.now ≡ None }
@@ -89,7 +91,7 @@ impl<'a> Load<'a> {
         ensures few { self.new.refused ≤ self.old.refused + 1 }
     {
         let who = self.policy.first_hostmaster();
-        let reply = decide_on_day(&self.board, self.policy, day, who, request);
+        let reply = decide_on_day(&self.board, self.policy, day, who, request, subject);
         self.take(&reply);
     }
 
@@ -100,9 +102,10 @@ impl<'a> Load<'a> {
         ensures few { self.new.refused ≤ self.old.refused + 1 }
     {
         let who = self.policy.first_hostmaster();
-        match undated_refusal(&self.board, self.policy, who, request) {
+        let subject = self.board.subject(request);
+        match undated_refusal(&self.board, self.policy, who, request, &subject) {
             Some(_) => self.refused += 1,
-            None => self.ask_on_day(day, request),
+            None => self.ask_on_day(day, request, &subject),
         }
     }
 

@@ -106,11 +106,13 @@ impl Session {
         self.board.is_whole();
         // A law, for the days that are written.
         replies_have_dates();
-        if let Some(refusal) = undated_refusal(&self.board, &self.policy, &self.who, request) {
+        let (board, policy, who) = (&self.board, &self.policy, &self.who);
+        let subject = board.subject(request);
+        if let Some(refusal) = undated_refusal(board, policy, who, request, &subject) {
             tell_refused(refusal, line);
             return;
         }
-        let reply = decide_on_day(&self.board, &self.policy, self.day, &self.who, request);
+        let reply = decide_on_day(board, policy, self.day, who, request, &subject);
         write_reply(&reply, line);
         if let Reply::Accepted(entry) = &reply {
             self.board.apply(entry);

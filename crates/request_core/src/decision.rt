@@ -4,11 +4,12 @@ ghost use Rattle.reg_entry.specs.Decision.{decision, refusal_of, proposed_entry,
 ghost use Rattle.reg_entry.specs.Next.{IsNextEntry};
 ghost use Rattle.reg_entry.specs.Covers.{IsLeastCover};
 ghost use Rattle.reg_entry.specs.Request.{IsSizedRequest};
+ghost use Rattle.board.specs.Subject.{IsSubjectOf};
 ghost use Rattle.request_core.specs.Undated.{undated_refusal};
 
 use crate::policy_rules::rule_refusal;
 use crate::proposal::propose;
-use board::Board;
+use board::{Board, Subject};
 use policy_table::Policy;
 use reg_entry::{Entry, Name, Refusal, Reply, Request};
 use reg_laws::next::accepted_may_come_next;
@@ -20,7 +21,9 @@ pub fn undated_refusal(
     policy: &Policy,
     who: &Name,
     request: &Request,
+    subject: &Subject,
 ) -> Option<Refusal>
+    requires { IsSubjectOf board.now.register request.now subject.now }
     ensures refusal { result ≡ undated_refusal board.now.register policy.now who.now request.now }
     ensures decision { IfSome result (λ refusal. (day : ℕ) → decision board.now.register policy.now day who.now request.now ≡ Refused refusal) }
     ensures sized { IfNone result (IsSizedRequest request.now) }
@@ -28,7 +31,7 @@ pub fn undated_refusal(
     if !policy.knows(who) {
         return Some(Refusal::UnknownHostmaster);
     }
-    rule_refusal(board, policy, request)
+    rule_refusal(board, policy, request, subject)
 }
 
 /// Decides, on a day of the clock, a request that isn't refused whatever the day. It is a call of its own, so that a refusal
@@ -39,7 +42,9 @@ pub fn decide_on_day(
     day: u32,
     who: &Name,
     request: &Request,
+    subject: &Subject,
 ) -> Reply
+    requires subject { IsSubjectOf board.now.register request.now subject.now }
     requires sized { IsSizedRequest request.now }
     requires unopposed { undated_refusal board.now.register policy.now who.now request.now ≡ None }
     ensures decision { result ≡ decision board.now.register policy.now day who.now request.now }
@@ -48,13 +53,14 @@ pub fn decide_on_day(
     ensures next { IfAccepted result (IsNextEntry board.now.register) }
     ensures least { IfAccepted result (λ e. IsLeastCover board.now.register e.request e.cover) }
 {
-    let proposal = propose(board, policy, day, request);
+    let proposal = propose(board, policy, day, request, subject);
     // A law, for `next` and `least`, and what it asks of the board, the policy and the request.
     accepted_may_come_next();
     board.is_whole();
     policy.is_well_formed();
     request.has_ranges();
-    let late = board.late_refusal(request, proposal.day, &proposal.cover, &proposal.card);
+    let (cover, card) = (&proposal.cover, &proposal.card);
+    let late = board.late_refusal(request, subject, proposal.day, cover, card);
     if let Some(refusal) = late {
         return Reply::Refused(refusal);
     }
@@ -78,8 +84,9 @@ pub fn decide(board: &Board, policy: &Policy, day: u32, who: &Name, request: &Re
     ensures next { IfAccepted result (IsNextEntry board.now.register) }
     ensures least { IfAccepted result (λ e. IsLeastCover board.now.register e.request e.cover) }
 {
-    if let Some(refusal) = undated_refusal(board, policy, who, request) {
+    let subject = board.subject(request);
+    if let Some(refusal) = undated_refusal(board, policy, who, request, &subject) {
         return Reply::Refused(refusal);
     }
-    decide_on_day(board, policy, day, who, request)
+    decide_on_day(board, policy, day, who, request, &subject)
 }

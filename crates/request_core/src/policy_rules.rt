@@ -7,13 +7,13 @@ ghost use Rattle.reg_entry.specs.declared.request.Request.TheVariants.{Delegate}
 ghost use Rattle.reg_entry.specs.Covers.{first_number};
 ghost use Rattle.reg_entry.specs.Holders.{holder_named, holder_number};
 ghost use Rattle.reg_entry.specs.Policy.{PlainRows, row_in, policy_row, lists_kind, IsRowOf};
-ghost use Rattle.reg_entry.specs.Register.{piece_of};
 ghost use Rattle.reg_entry.specs.Request.{has_size, status_of, IsSizedRequest};
 ghost use Rattle.reg_entry.specs.Sums.{held, allocated, used};
 ghost use Rattle.reg_entry.specs.Decision.{first_of, on_piece, refuse_if, amount_out_of_policy, delegate_rules, early_rules, transfer_rules, policy_rules};
 ghost use Rattle.request_core.specs.Named.{holder_of};
+ghost use Rattle.board.specs.Subject.{IsPieceAt, IsSubjectOf};
 
-use board::Board;
+use board::{Board, Subject};
 use num_range::{Range, Space};
 use policy_table::Policy;
 use reg_entry::{Delegation, Handle, Kind, Piece, Refusal, Request, Row, Status};
@@ -38,14 +38,15 @@ fn lists_kind(row: &Row, kind: Kind) -> bool
     }
 }
 
-/// The number of the holder with this handle, looked up once for all that the policy asks of the holder.
+/// Tells callers that a number which is that of a handle is one of the register's, and names the handle's holder.
 #[tactic(auto, using(crate::proofs::Named::known_if, crate::proofs::Named::named_by_number))]
-fn holder_number(board: &Board, handle: &Handle) -> Option<u32>
-    ensures number { result ≡ holder_number board.now.register.holders handle.now }
-    ensures known { IfSome result (λ number. number < length board.now.register.holders) }
-    ensures named { holder_named board.now.register.holders handle.now ≡ holder_of board.now.register.holders result }
+fn names_holder(board: &Board, handle: &Handle, number: Option<u32>)
+    requires { number ≡ holder_number board.now.register.holders handle.now }
+    ensures known { IfSome number (λ number. number < length board.now.register.holders) }
+    ensures named { holder_named board.now.register.holders handle.now ≡ holder_of board.now.register.holders number }
 {
-    board.holders().by_handle(handle)
+    let _ = board;
+    let _ = handle;
 }
 
 fn kind_left_out(board: &Board, row: &Row, number: Option<u32>) -> Option<Refusal>
@@ -110,7 +111,7 @@ fn under_used(board: &Board, row: &Row, space: Space, number: Option<u32>) -> Op
     Refusal::UnderUsed { used, held }.when(0 < held && used < hundredths(held, row.percent))
 }
 
-/// What is against a delegation whatever the day, by the row of its space and status: its holder, who is looked up once, isn't
+/// What is against a delegation whatever the day, by the row of its space and status: its holder, whose number this is, isn't
 /// known, or the row doesn't allow it.
 fn delegate_refusal(
     board: &Board,
@@ -119,13 +120,15 @@ fn delegate_refusal(
     amount: u32,
     status: Delegation,
     handle: &Handle,
+    number: Option<u32>,
 ) -> Option<Refusal>
-    requires { IsRowOf space row.now }
+    requires row { IsRowOf space row.now }
+    requires number { number ≡ holder_number board.now.register.holders handle.now }
     ensures refusal { result ≡ option_or (first_of (early_rules board.now.register (Delegate space amount status handle.now)))
         (first_of (delegate_rules board.now.register row.now space amount (status_of status) handle.now)) }
     ensures sized { IfNone result (has_size space amount ≡ true) }
 {
-    let number = holder_number(board, handle);
+    names_holder(board, handle, number);
     if number.is_none() {
         return Some(Refusal::UnknownHolder { handle: *handle });
     }
@@ -153,13 +156,14 @@ fn delegation_of(status: Status) -> Delegation
     }
 }
 
-/// The piece that holds the range's first number.
+/// Tells callers that the piece at a range's first number has no more numbers than global unicast.
 #[tactic(auto, using(crate::proofs::PieceSizes::size_bound))]
-fn piece_of(board: &Board, range: &Range) -> Option<Piece>
-    ensures piece { result ≡ piece_of board.now.register.pool (first_number range.now) }
-    ensures size { IfSome result (λ piece. size_of piece.range ≤ 2 ^ 126) }
+fn is_bounded(board: &Board, range: &Range, piece: Option<Piece>)
+    requires { IsPieceAt board.now.register (first_number range.now) piece }
+    ensures { IfSome piece (λ piece. size_of piece.range ≤ 2 ^ 126) }
 {
-    board.piece_of(range.first_number())
+    let _ = board;
+    let _ = range;
 }
 
 /// What a transfer to the holder of this number adds to what the holder holds: nothing, where that is the piece's own.
@@ -175,14 +179,25 @@ fn transferred_size(piece: &Piece, number: Option<u32>) -> u128
     }
 }
 
-/// What is against a transfer of a range by the row of its space and of the piece's status.
-fn transfer_refusal(board: &Board, policy: &Policy, range: &Range, to: &Handle) -> Option<Refusal>
+/// What is against a transfer of a range, which speaks of this piece and of who gets it, by the row of its space and of the
+/// piece's status.
+fn transfer_refusal(
+    board: &Board,
+    policy: &Policy,
+    range: &Range,
+    to: &Handle,
+    subject: &Subject,
+) -> Option<Refusal>
+    requires piece { IsPieceAt board.now.register (first_number range.now) subject.now.piece }
+    requires holder { subject.now.holder ≡ holder_number board.now.register.holders to.now }
     ensures { result ≡ on_piece board.now.register (first_number range.now) (transfer_rules board.now.register policy.now range.now.space to.now) }
 {
-    let piece = piece_of(board, range)?;
+    is_bounded(board, range, subject.piece);
+    let number = subject.holder;
+    names_holder(board, to, number);
+    let piece = subject.piece?;
     let space = range.space();
     let row = policy.row(space, delegation_of(piece.card.status));
-    let number = holder_number(board, to);
     let kind_refusal = kind_left_out(board, &row, number);
     if kind_refusal.is_some() {
         return kind_refusal;
@@ -200,7 +215,13 @@ fn row_of(policy: &Policy, space: Space, delegation: Delegation) -> Row
 }
 
 /// Why the register or the policy refuses the request whatever the day, or nothing.
-pub(crate) fn rule_refusal(board: &Board, policy: &Policy, request: &Request) -> Option<Refusal>
+pub(crate) fn rule_refusal(
+    board: &Board,
+    policy: &Policy,
+    request: &Request,
+    subject: &Subject,
+) -> Option<Refusal>
+    requires { IsSubjectOf board.now.register request.now subject.now }
     ensures refusal { result ≡ option_or (first_of (early_rules board.now.register request.now))
         (first_of (policy_rules board.now.register policy.now request.now)) }
     ensures sized { IfNone result (IsSizedRequest request.now) }
@@ -213,11 +234,12 @@ pub(crate) fn rule_refusal(board: &Board, policy: &Policy, request: &Request) ->
             handle,
         } => {
             let row = row_of(policy, *space, *status);
-            delegate_refusal(board, &row, *space, *amount, *status, handle)
+            let number = subject.holder;
+            delegate_refusal(board, &row, *space, *amount, *status, handle, number)
         }
         Request::Transfer { range, to, .. } => board
-            .early_refusal(request)
-            .or_else(|| transfer_refusal(board, policy, range, to)),
-        _ => board.early_refusal(request),
+            .early_refusal(request, subject)
+            .or_else(|| transfer_refusal(board, policy, range, to, subject)),
+        _ => board.early_refusal(request, subject),
     }
 }

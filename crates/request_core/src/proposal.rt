@@ -6,9 +6,10 @@ ghost use Rattle.reg_entry.specs.Covers.{chosen_start};
 ghost use Rattle.reg_entry.specs.Days.{days_later};
 ghost use Rattle.reg_entry.specs.Decision.{entry_day, until_for, proposed_entry};
 ghost use Rattle.board.specs.Starts.{MayStartAt};
+ghost use Rattle.board.specs.Subject.{IsSubjectOf};
 ghost use Rattle.reg_entry.specs.Request.{IsSizedRequest};
 
-use board::Board;
+use board::{Board, Subject};
 use fit_search::{amounts_are_sought, least_block};
 use num_range::Range;
 use policy_table::Policy;
@@ -65,8 +66,15 @@ pub(crate) struct Proposal {
     pub card: Option<Card>,
 }
 
-pub(crate) fn propose(board: &Board, policy: &Policy, day: u32, request: &Request) -> Proposal
-    requires { IsSizedRequest request.now }
+pub(crate) fn propose(
+    board: &Board,
+    policy: &Policy,
+    day: u32,
+    request: &Request,
+    subject: &Subject,
+) -> Proposal
+    requires sized { IsSizedRequest request.now }
+    requires subject { IsSubjectOf board.now.register request.now subject.now }
     ensures entry { (who : List ℕ) → record { seq = result.seq; day = result.day; who = who; request = request.now; cover = result.cover; card = result.card }
         ≡ proposed_entry board.now.register policy.now day who request.now }
     ensures split { (at : PlainNumber) → request.now ≡ Split at → result.card ≡ None }
@@ -76,7 +84,7 @@ pub(crate) fn propose(board: &Board, policy: &Policy, day: u32, request: &Reques
     Proposal {
         seq: board.entries() + 1,
         day,
-        cover: board.cover_for(request, chosen_start(board, request)),
-        card: board.card_for(request, day, until),
+        cover: board.cover_for(request, subject, chosen_start(board, request)),
+        card: board.card_for(request, subject, day, until),
     }
 }

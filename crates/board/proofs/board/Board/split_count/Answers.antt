@@ -15,17 +15,17 @@ returns-in-Some c =
     let lt : c.in-Some.piece.range.first < c.args.at.value = omega arith in
     ap (λ n. n + 1) (c.pieces-pieces.ensures.count ∙ ap piece_count c.pieces.ensures.pool)
     ∙ sym (split_adds c.args.self.now.register.pool c.args.at c.in-Some.piece (subst IsPartition c.pieces.ensures.pool c.pieces-pieces.ensures.valid)
-    (sym c.piece_of.ensures.piece ∙ c.in-Some.is) lt)
+    (sym c.requires.is ∙ c.in-Some.is) lt)
 
 pub returns-in_default : goal.returns-in_default
 returns-in_default c =
     let le : c.args.at.value ≤ c.in-Some.piece.range.first = omega arith in
     c.pieces-pieces.ensures.count ∙ ap piece_count c.pieces.ensures.pool
     ∙ sym (split_at_first c.args.self.now.register.pool c.args.at c.in-Some.piece (subst IsPartition c.pieces.ensures.pool c.pieces-pieces.ensures.valid)
-    (sym c.piece_of.ensures.piece ∙ c.in-Some.is) le)
+    (sym c.requires.is ∙ c.in-Some.is) le)
 
 pub returns-in_default-2 : goal.returns-in_default-2
 returns-in_default-2 c =
     c.pieces-pieces.ensures.count ∙ ap piece_count c.pieces.ensures.pool
     ∙ sym (split_outside c.args.self.now.register.pool c.args.at (subst IsPartition c.pieces.ensures.pool c.pieces-pieces.ensures.valid)
-    (sym c.piece_of.ensures.piece ∙ c.in_default.is))
+    (sym c.requires.is ∙ c.in_default.is))
